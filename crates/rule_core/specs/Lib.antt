@@ -1,0 +1,10 @@
+pub mod Terms
+pub mod Order
+pub mod Mapping
+pub mod Snapshot
+pub mod Match
+pub mod Homomorphism
+pub mod Solution
+pub mod Coalesced
+pub mod Copy
+pub mod Tables
