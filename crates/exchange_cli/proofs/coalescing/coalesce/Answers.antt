@@ -1,0 +1,13 @@
+use Rattle.std.proofs.lemmas.List.Sorted.{IsPermutation-sym}
+use Rattle.exchange_cli.proofs.SweepSteps.{covers_moved}
+use Rattle.exchange_cli.proofs.coalescing.coalesce.Goals as goal
+
+pub returns-clause-coalesced : goal.returns-clause-coalesced
+returns-clause-coalesced c = rw (c.from_vec-2.ensures, c.truncate.ensures.items) c.sweep-last.ensures.coalesced
+
+pub returns-clause-covers : goal.returns-clause-covers
+returns-clause-covers c row t =
+    rw (c.from_vec-2.ensures, c.truncate.ensures.items, ← c.into_vec-rows.ensures) (
+      λ d. covers_moved _ _ (IsPermutation-sym _ _ c.sort_unstable.ensures.permutation) row t ((c.sweep-last.ensures.covers row t).0 d),
+      λ d. (c.sweep-last.ensures.covers row t).1 (covers_moved _ _ c.sort_unstable.ensures.permutation row t d),
+    )

@@ -1,0 +1,29 @@
+-- A mapping that could not be fetched is the first failure.
+use Rattle.std.proofs.Common.{◌≡◌, IfSome}
+use Rattle.std.proofs.lemmas.Result.{err_from_is_err_and}
+use Rattle.exchange_cli.specs.Commands.{command_of}
+use Rattle.exchange_cli.specs.Work.{Comes, mapping_limit}
+use Rattle.exchange_cli.specs.Run.{device}
+use Rattle.exchange_cli.proofs.StepLemmas.{fetch_stops, comes_to_mapping, not_built_stops}
+use Rattle.exchange_cli.proofs.WordLemmas.{no_mark}
+use Rattle.exchange_cli.proofs.inputs.fetch_mapping.Goals as goal
+
+pub returns-in_err-bytes-clause-stops : goal.returns-in_err-bytes-clause-stops
+returns-in_err-bytes-clause-stops g c =
+    let p = err_from_is_err_and c.from_residual-in_err-bytes.result c.from_residual-in_err-bytes.ensures.1 in
+    let command = command_of c.args.command.now in
+    let held = g.S.Shelf.holds c.args.shelf.now in
+    let named : c.in_ok-name.name ≡ command.mapping = c.in_ok-name.ensures in
+    let comes : IfSome held (λ h. Comes h command c.in_ok-name.name mapping_limit) = rw named (comes_to_mapping held command) in
+    rw (p.1, p.2) (fetch_stops held (g.S.Shelf.faults c.args.shelf.now) (device (g.S.Shelf.holds c.fetch.new.shelf) (g.S.Shelf.faults c.fetch.new.shelf))
+    command c.in_ok-name.name mapping_limit c.in_err-bytes.field-0.0 comes c.in_err-bytes.ensures.fails)
+
+pub returns-clause-stops : goal.returns-clause-stops
+returns-clause-stops g c =
+    not_built_stops (g.S.Shelf.holds c.args.shelf.now) (command_of c.args.command.now) c.in_ok-name.name c.in_ok-bytes.bytes c.in_ok-name.ensures c.in_ok-bytes.ensures.gives
+    (rw c.as_slice.ensures at (rw c.in-None.is at c.in_ok-found.ensures.none))
+
+pub returns-in-Some-clause-sound : goal.returns-in-Some-clause-sound
+returns-in-Some-clause-sound g c =
+    let form = rw c.in-Some.is at c.in_ok-found.ensures.form in
+    record { copy = form.copy; no_mark = no_mark c.as_slice.result.now c.in-Some.mapping form }

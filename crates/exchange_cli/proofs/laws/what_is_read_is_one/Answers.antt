@@ -1,0 +1,5 @@
+use Rattle.exchange_cli.proofs.ReadLemmas.{one_reading}
+use Rattle.exchange_cli.proofs.laws.what_is_read_is_one.Goals as goal
+
+pub returns : goal.returns
+returns c = one_reading

@@ -1,0 +1,34 @@
+-- The status and the line of each ending.
+use Rattle.std.specs.Prelude.{ℕ, List, [], ◌∷◌, ◌++◌, codes}
+use Rattle.exchange_cli.specs.declared.ending.Ending.{Ending}
+use Rattle.exchange_cli.specs.declared.ending.Ending.TheVariants.{Done, Words, Missing, TooLong, NotBuilt, Table, Read, Write, Output, Memory}
+
+-- the answer of the program
+abbrev pub status_of : Ending → ℕ
+status_of Done = 0
+status_of Words = 5
+status_of (Missing name) = 1
+status_of (TooLong name) = 1
+status_of NotBuilt = 1
+status_of (Table name) = 1
+status_of (Read name) = 3
+status_of (Write name) = 3
+status_of Output = 3
+status_of Memory = 4
+
+-- a text as a line
+abbrev pub line : List ℕ → List ℕ
+line text = text ++ 10 ∷ []
+
+-- what is said of an ending on the standard error
+abbrev pub line_of : Ending → List ℕ
+line_of Done = []
+line_of Words = line (codes "refused: words")
+line_of (Missing name) = line (codes "refused: missing " ++ name)
+line_of (TooLong name) = line (codes "refused: too long " ++ name)
+line_of NotBuilt = line (codes "refused: not built")
+line_of (Table name) = line (codes "refused: table " ++ name)
+line_of (Read name) = line (codes "fault: read " ++ name)
+line_of (Write name) = line (codes "fault: write " ++ name)
+line_of Output = line (codes "fault: output")
+line_of Memory = line (codes "fault: memory")

@@ -1,0 +1,56 @@
+//! How a run ends.
+
+ghost use Rattle.std.specs.Prelude.{◌≡◌};
+ghost use Rattle.exchange_cli.specs.declared.ending.Ending.TheVariants.{Memory as OutOfMemory};
+
+use term_core::{Memory, Text};
+
+/// How a run ends. Each refusal and each fault names what it is about.
+#[derive(Drop)]
+pub enum Ending {
+    /// The files are stored and the line is printed.
+    Done,
+    /// The words are no command's.
+    Words,
+    /// There is no such file.
+    Missing(Text),
+    /// The file is longer than its limit.
+    TooLong(Text),
+    /// The mapping is of no form that is built.
+    NotBuilt,
+    /// The table has a fault.
+    Table(Text),
+    /// The shelf failed to fetch the file.
+    Read(Text),
+    /// The shelf failed to store the file.
+    Write(Text),
+    /// The output could not be written.
+    Output,
+    /// There was no memory.
+    Memory,
+}
+
+impl From<Memory> for Ending {
+    ghost from_gives = { λ _ e. e ≡ OutOfMemory };
+
+    fn from(_memory: Memory) -> Ending {
+        Ending::Memory
+    }
+}
+
+impl Ending {
+    ghost use Rattle.exchange_cli.specs.Endings.{status_of};
+
+    /// The status with which the program ends.
+    pub fn status(&self) -> u8
+        ensures { result ≡ status_of self.now }
+    {
+        match self {
+            Ending::Done => 0,
+            Ending::Missing(_) | Ending::TooLong(_) | Ending::NotBuilt | Ending::Table(_) => 1,
+            Ending::Read(_) | Ending::Write(_) | Ending::Output => 3,
+            Ending::Memory => 4,
+            Ending::Words => 5,
+        }
+    }
+}

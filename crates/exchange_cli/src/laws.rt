@@ -1,0 +1,21 @@
+//! What the order of work gives: what is read is one, and either all is read or something is the first failure.
+
+ghost use Rattle.std.specs.Prelude.{◌≡◌, ℕ, List};
+ghost use Rattle.shelf_core.specs.Held.{Held};
+ghost use Rattle.exchange_cli.specs.Words.{Exchange};
+ghost use Rattle.exchange_cli.specs.Target.{Inputs};
+ghost use Rattle.exchange_cli.specs.Work.{Reads, FailsFirst};
+ghost use Rattle.exchange_cli.specs.declared.ending.Ending.{Ending};
+ghost use Rattle.exchange_cli.specs.declared.ending.Ending.TheVariants.{Read};
+
+/// All that a command reads from what is held is one mapping and one list of tables.
+pub fn what_is_read_is_one()
+    ensures { (held : Held) (command : Exchange) (a b : Inputs) → Reads held command a → Reads held command b → a ≡ b }
+{}
+
+/// Where all that a command reads is there without a fault, no refusal is the first failure: only a fault of the
+/// shelf is left.
+pub fn what_is_read_is_not_refused()
+    ensures { (held : Held) (command : Exchange) (inputs : Inputs) → Reads held command inputs
+        → (ending : Ending) → FailsFirst held command ending → (name : List ℕ) × (ending ≡ Read name) }
+{}

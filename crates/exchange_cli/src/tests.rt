@@ -1,0 +1,157 @@
+use crate::run;
+use shelf_core::{MemoryShelf, MemorySink};
+use std::alloc::Global;
+use std::test::Fail;
+
+const M0: &[u8] = b"source A(x)\ntarget B(x)\ntgd t: A(x) -> B(x)\n";
+
+const WORDS: [&str; 4] = ["exchange", "m.txt", "src", "out"];
+
+const FIRST_RUN: &[u8] = b"x,start,end\na,1,3\na,3,5\nb,-inf,2\n";
+
+/// A shelf with files, which fails at some call, and what a run of some words left.
+#[derive(Drop)]
+struct Run {
+    shelf: MemoryShelf,
+    out: MemorySink,
+    err: MemorySink,
+    status: u8,
+}
+
+fn ran(
+    alloc: Global,
+    words: &[&str],
+    mapping: &[u8],
+    table: &[u8],
+    failing: u64,
+) -> Result<Run, Fail> {
+    let mut shelf = MemoryShelf::new(alloc);
+    shelf.place("m.txt", mapping)?;
+    shelf.place("src/A.csv", table)?;
+    shelf.place("out/verdict.txt", b"before")?;
+    shelf.fail(failing)?;
+    shelf.room(8, 10_000)?;
+    let mut out = MemorySink::new(alloc);
+    out.room(1000)?;
+    let mut err = MemorySink::new(alloc);
+    err.room(1000)?;
+    let mut texts = Vec::new(alloc);
+    for word in words {
+        texts.push(String::from_str(alloc, word)?)?;
+    }
+    let status = run(alloc, &texts, &mut shelf, &mut out, &mut err);
+    Ok(Run {
+        shelf,
+        out,
+        err,
+        status,
+    })
+}
+
+// Refused runs first: the status, the line, and that nothing was stored or printed.
+#[test]
+fn refusals_change_nothing(rt: HostRuntime) -> Result<(), Fail> {
+    let two_columns =
+        b"source A(x, y)\ntarget B(x, z)\ntgd p: A(x, y) -> exists z: B(x, z)\n".as_slice();
+    let elsewhere = ["exchange", "n.txt", "src", "out"].as_slice();
+    let three = ["exchange", "m.txt", "src"].as_slice();
+    let no_table = ["exchange", "m.txt", "from", "out"].as_slice();
+    let rows: [(&[&str], &[u8], &[u8], u64, u8, &[u8]); 8] = [
+        (&["--help"], M0, FIRST_RUN, 0, 5, b"refused: words\n"),
+        (three, M0, FIRST_RUN, 0, 5, b"refused: words\n"),
+        (elsewhere, M0, FIRST_RUN, 0, 1, b"refused: missing n.txt\n"),
+        (
+            no_table,
+            M0,
+            FIRST_RUN,
+            0,
+            1,
+            b"refused: missing from/A.csv\n",
+        ),
+        (
+            &WORDS,
+            two_columns,
+            FIRST_RUN,
+            2,
+            1,
+            b"refused: not built\n",
+        ),
+        (
+            &WORDS,
+            M0,
+            b"x,start,end\na,5,5\n",
+            0,
+            1,
+            b"refused: table src/A.csv\n",
+        ),
+        (&WORDS, M0, FIRST_RUN, 1, 3, b"fault: read m.txt\n"),
+        (&WORDS, M0, FIRST_RUN, 2, 3, b"fault: read src/A.csv\n"),
+    ];
+    for (words, mapping, table, failing, status, line) in rows {
+        let run = ran(rt.alloc(), words, mapping, table, failing)?;
+        assert_eq!(rt; run.status, status);
+        assert_eq!(rt; run.err.text(), line);
+        assert_eq!(rt; run.out.text(), b"".as_slice());
+        assert_eq!(rt; run.shelf.get("out/B.csv"), None);
+        assert_eq!(rt;
+            run.shelf.get("out/verdict.txt"),
+            Some(b"before".as_slice())
+        );
+    }
+    Ok(())
+}
+
+// Solved runs: the stored table, with the verdict and the line.
+#[test]
+fn solved_runs_store_the_target(rt: HostRuntime) -> Result<(), Fail> {
+    let rows: [(&[u8], &[u8], &[u8]); 5] = [
+        (M0, FIRST_RUN, b"x,start,end\na,1,5\nb,-inf,2\n"),
+        (
+            M0,
+            b"\xEF\xBB\xBFx,start,end\na,1,3\na,3,5\nb,-inf,2\n",
+            b"x,start,end\na,1,5\nb,-inf,2\n",
+        ),
+        (M0, b"x,start,end\n", b"x,start,end\n"),
+        (
+            M0,
+            b"x,start,end\n?5,1,2\n,1,2\n\"a,b\",1,2\n\"c\nd\",1,2\n",
+            b"x,start,end\n,1,2\n??5,1,2\n\"a,b\",1,2\n\"c\nd\",1,2\n",
+        ),
+        (
+            b"source A(x, y, z)\ntarget B(z, x)\ntgd t: A(x, y, x) -> B(y, x)",
+            b"x,y,z,start,end\na,p,a,0,inf\na,p,b,0,inf\nb,p,b,4,6\nb,p,b,7,9\n",
+            b"z,x,start,end\np,a,0,inf\np,b,4,6\np,b,7,9\n",
+        ),
+    ];
+    for (mapping, table, stored) in rows {
+        let run = ran(rt.alloc(), &WORDS, mapping, table, 0)?;
+        assert_eq!(rt; run.status, 0);
+        assert_eq!(rt; run.err.text(), b"".as_slice());
+        assert_eq!(rt; run.out.text(), b"solved\n".as_slice());
+        assert_eq!(rt; run.shelf.get("out/B.csv"), Some(stored));
+        assert_eq!(rt;
+            run.shelf.get("out/verdict.txt"),
+            Some(b"solved\n".as_slice())
+        );
+    }
+    Ok(())
+}
+
+// A store that fails ends the run: the files before it are whole.
+#[test]
+fn a_failed_store_ends_the_run(rt: HostRuntime) -> Result<(), Fail> {
+    let first = ran(rt.alloc(), &WORDS, M0, FIRST_RUN, 3)?;
+    assert_eq!(rt; first.status, 3);
+    assert_eq!(rt; first.err.text(), b"fault: write out/B.csv\n".as_slice());
+    assert_eq!(rt; first.out.text(), b"".as_slice());
+    let second = ran(rt.alloc(), &WORDS, M0, FIRST_RUN, 4)?;
+    assert_eq!(rt;
+        second.err.text(),
+        b"fault: write out/verdict.txt\n".as_slice()
+    );
+    assert_eq!(rt;
+        second.shelf.get("out/B.csv"),
+        Some(b"x,start,end\na,1,5\nb,-inf,2\n".as_slice())
+    );
+    Ok(())
+}

@@ -1,0 +1,79 @@
+//! The one call that the program makes.
+
+ghost use Rattle.std.specs.Prelude.{◌≡◌, map, string_bytes};
+ghost use Rattle.exchange_cli.specs.Run.{device, moment, Causes, Ends, Says};
+ghost use Rattle.exchange_cli.specs.Endings.{line_of};
+ghost use Rattle.exchange_cli.specs.Headline.{WordsClause, StatusClause, TargetClause, OutputClause, StoreClause};
+
+use crate::command::read_words;
+use crate::delivery::deliver;
+use crate::ending::Ending;
+use crate::inputs::read_inputs;
+use crate::reporting::report;
+use crate::solving::solve;
+use shelf_core::{Shelf, Sink};
+use std::alloc::Global;
+
+/// Runs the command that the words spell and answers the status with which the program ends: 0 where it is done,
+/// 1 where an input is refused, 3 where a fetch, a store or the output failed, 4 where there was no memory, and 5
+/// where the words are no command's. The words come without the program's name.
+pub fn run<S: Shelf, O: Sink, E: Sink>(
+    alloc: Global,
+    words: &Vec<String>,
+    shelf: &mut S,
+    out: &mut O,
+    err: &mut E,
+) -> u8
+    ensures ends { Ends (map string_bytes words.now.items)
+        (moment (device (S.holds shelf.old) (S.faults shelf.old)) (device (O.text out.old) (O.faults out.old)))
+        (moment (device (S.holds shelf.new) (S.faults shelf.new)) (device (O.text out.new) (O.faults out.new)))
+        (device (E.text err.old) (E.faults err.old)) (device (E.text err.new) (E.faults err.new)) result }
+    ensures words { WordsClause (map string_bytes words.now.items) result }
+    ensures untouched { result ≡ 5 → shelf.new ≡ shelf.old }
+
+    // The clauses under the headline.
+    ensures status { StatusClause (map string_bytes words.now.items)
+        (moment (device (S.holds shelf.old) (S.faults shelf.old)) (device (O.text out.old) (O.faults out.old)))
+        (moment (device (S.holds shelf.new) (S.faults shelf.new)) (device (O.text out.new) (O.faults out.new))) result }
+    ensures target { TargetClause (map string_bytes words.now.items)
+        (moment (device (S.holds shelf.old) (S.faults shelf.old)) (device (O.text out.old) (O.faults out.old)))
+        (moment (device (S.holds shelf.new) (S.faults shelf.new)) (device (O.text out.new) (O.faults out.new))) result }
+    ensures output { OutputClause (device (O.text out.old) (O.faults out.old)) (device (O.text out.new) (O.faults out.new)) result }
+    ensures stores { StoreClause
+        (moment (device (S.holds shelf.old) (S.faults shelf.old)) (device (O.text out.old) (O.faults out.old)))
+        (moment (device (S.holds shelf.new) (S.faults shelf.new)) (device (O.text out.new) (O.faults out.new))) result }
+{
+    let ending = work(alloc, words.as_slice(), shelf, out);
+    report(err, &ending);
+    ending.status()
+}
+
+/// Ends as `run` does for want of memory, for a program that has no memory for its words.
+pub fn end_without_memory<E: Sink>(err: &mut E) -> u8
+    ensures status { result ≡ 4 }
+    ensures line { Says (device (E.text err.old) (E.faults err.old)) (device (E.text err.new) (E.faults err.new)) (line_of Ending.Memory) }
+{
+    let ending = Ending::Memory;
+    report(err, &ending);
+    ending.status()
+}
+
+// All but the line on the standard error.
+fn work<S: Shelf, O: Sink>(alloc: Global, words: &[String], shelf: &mut S, out: &mut O) -> Ending
+    ensures causes { Causes (map string_bytes words.now)
+        (moment (device (S.holds shelf.old) (S.faults shelf.old)) (device (O.text out.old) (O.faults out.old)))
+        (moment (device (S.holds shelf.new) (S.faults shelf.new)) (device (O.text out.new) (O.faults out.new))) result }
+    ensures untouched { result ≡ Ending.Words → shelf.new ≡ shelf.old }
+{
+    let Some(command) = read_words(words) else {
+        return Ending::Words;
+    };
+    let inputs = match read_inputs(alloc, shelf, &command) {
+        Ok(inputs) => inputs,
+        Err(ending) => return ending,
+    };
+    match solve(alloc, command.target, inputs) {
+        Ok(files) => deliver(files, shelf, out),
+        Err(_) => Ending::Memory,
+    }
+}
