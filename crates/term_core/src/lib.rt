@@ -1,11 +1,14 @@
-//! Lists and texts that contracts see as their contents, the names of constants, and the one error that every crate
-//! shares: want of memory.
+//! Lists and texts that contracts see as their contents, constants with their numbers, terms and their order, and the
+//! one error that every crate shares: want of memory.
 #![tactic(auto)]
 
 mod const_id;
 mod items;
+pub mod laws;
 mod memory;
+mod pool;
 mod slots;
+mod term;
 #[cfg(test)]
 mod tests;
 mod text;
@@ -13,5 +16,7 @@ mod text;
 pub use const_id::ConstId;
 pub use items::Items;
 pub use memory::Memory;
+pub use pool::{Pool, PoolBuilder};
 pub use slots::Slots;
+pub use term::{Seen, Term, Unknown};
 pub use text::Text;

@@ -1,4 +1,5 @@
-use crate::{Items, Memory, Slots, Text};
+use crate::{ConstId, Items, Memory, Pool, PoolBuilder, Seen, Slots, Term, Text, Unknown};
+use std::alloc::Global;
 use std::cmp::Ordering;
 use std::test::Fail;
 
@@ -59,5 +60,68 @@ fn texts_by_their_bytes(rt: HostRuntime) -> Result<(), Fail> {
     let lower = Text::from_str(rt.alloc(), "ada")?;
     assert_eq!(rt; text.cmp(&lower), Ordering::Less);
     assert!(rt; text != lower);
+    Ok(())
+}
+
+// The pool of some texts.
+fn pool_of(alloc: Global, texts: &[&str]) -> Result<Pool, Fail> {
+    let mut builder = PoolBuilder::new(alloc);
+    for text in texts {
+        if builder.len() < 4_294_967_295 {
+            builder.add(*text)?;
+        }
+    }
+    Ok(builder.finish()?)
+}
+
+// Texts are numbered by their bytes, each once: the empty one first, capitals before small letters, and letters
+// beyond ASCII last.
+#[test]
+fn texts_by_their_numbers(rt: HostRuntime) -> Result<(), Fail> {
+    let pool = pool_of(rt.alloc(), &["é", "aa", "", "a", "aa", "Z", "é"])?;
+    assert_eq!(rt; pool.len(), 5);
+    let rows = [("", 0), ("Z", 1), ("a", 2), ("aa", 3), ("é", 4)];
+    for (text, number) in rows {
+        assert_eq!(rt; pool.id_of(text), Some(ConstId(number)));
+        let within = (number as usize) < pool.len();
+        assert!(rt; within && pool.text(ConstId(number)) == text);
+    }
+    for text in ["A", "aaa", "b", "e", "z"] {
+        assert_eq!(rt; pool.id_of(text), None);
+    }
+    Ok(())
+}
+
+// An unknown of the rule at a place, for one constant and one variable.
+fn unknown(alloc: Global, rule: u32, constant: u32, var: u32) -> Result<Term, Fail> {
+    let mut frontier = Items::new(alloc);
+    frontier.push(ConstId(constant))?;
+    Ok(Term::Null(Unknown {
+        rule,
+        frontier,
+        var,
+    }))
+}
+
+// Constants first, then unknowns by rule, by frontier, by variable.
+#[test]
+fn terms_in_order(rt: HostRuntime) -> Result<(), Fail> {
+    let rows = [
+        Term::Const(ConstId(7)),
+        Term::Const(ConstId(8)),
+        unknown(rt.alloc(), 0, 9, 9)?,
+        unknown(rt.alloc(), 1, 2, 9)?,
+        unknown(rt.alloc(), 1, 3, 0)?,
+        unknown(rt.alloc(), 1, 3, 1)?,
+    ];
+    for (place, left) in rows.iter().enumerate() {
+        for (other, right) in rows.iter().enumerate() {
+            assert_eq!(rt; left.cmp(right), place.cmp(&other));
+        }
+    }
+    assert_eq!(rt;
+        Seen::Const(ConstId(9)).cmp(&Seen::Piece(0)),
+        Ordering::Less
+    );
     Ok(())
 }
