@@ -12,7 +12,7 @@ tgd_of m = record { name = m.name; vars = m.variables; body_vars = length m.vari
 
 -- the mapping as relations and rules
 abbrev pub rules_of : CopyMapping → RuleSet
-rules_of m = record { sources = m.source ∷ []; targets = m.target ∷ []; tgds = tgd_of m ∷ []; egds = [] }
+rules_of m = record { sources = m.source ∷ []; targets = m.target ∷ []; tgds = tgd_of m ∷ []; egds = []; queries = [] }
 
 -- the bytes are a mapping of the form that is built
 abbrev pub IsBuilt : List ℕ → RuleSet → Type 0

@@ -29,6 +29,10 @@ pub record Moment : Type 0 where
 abbrev pub moment : Device Held → Device (List ℕ) → Moment
 moment shelf out = record { shelf = shelf; out = out }
 
+-- the same, of a shelf and an output whose types tell what they hold and count
+abbrev pub seen : {S O : Type 0} → (S → Option Held) → (S → ℕ) → (O → Option (List ℕ)) → (O → ℕ) → S → O → Moment
+seen holds shelf_faults text out_faults shelf out = moment (device (holds shelf) (shelf_faults shelf)) (device (text out) (out_faults out))
+
 -- nothing was stored or printed
 abbrev pub Untouched : Moment → Moment → Type 0
 Untouched before after = (after.shelf.content ≡ before.shelf.content) × (after.out ≡ before.out)

@@ -1,7 +1,7 @@
 //! Stores the files of an outcome and prints its line. Nothing here takes memory.
 
 ghost use Rattle.std.specs.Prelude.{◌≡◌, ◌<◌, ◌≤◌, length, slice_index_or, OnOk, IfErr};
-ghost use Rattle.exchange_cli.specs.Run.{device, moment, Stores, Delivers};
+ghost use Rattle.exchange_cli.specs.Run.{device, seen, Stores, Delivers};
 ghost use Rattle.exchange_cli.specs.Steps.{StopsAtFile};
 ghost use Rattle.exchange_cli.specs.declared.file.FileOut.{FileOut as File};
 
@@ -16,8 +16,8 @@ pub const SOLVED: &[u8] = b"solved\n";
 /// Stores the files in their order and then prints the line. A failure ends it.
 pub fn deliver<S: Shelf, O: Sink>(files: Items<FileOut>, shelf: &mut S, out: &mut O) -> Ending
     ensures delivers { Delivers
-        (moment (device (S.holds shelf.old) (S.faults shelf.old)) (device (O.text out.old) (O.faults out.old)))
-        (moment (device (S.holds shelf.new) (S.faults shelf.new)) (device (O.text out.new) (O.faults out.new))) files result }
+        (seen S.holds S.faults O.text O.faults shelf.old out.old)
+        (seen S.holds S.faults O.text O.faults shelf.new out.new) files result }
     ensures later { S.faults shelf.old ≤ S.faults shelf.new }
 {
     if let Err(at) = store_all(shelf, files.as_slice()) {
@@ -32,9 +32,11 @@ pub fn deliver<S: Shelf, O: Sink>(files: Items<FileOut>, shelf: &mut S, out: &mu
 // Stores the files in their order, or answers the place of the one whose store failed.
 fn store_all<S: Shelf>(shelf: &mut S, files: &[FileOut]) -> Result<(), usize>
     ensures ok { OnOk result
-        (Stores (device (S.holds shelf.old) (S.faults shelf.old)) (device (S.holds shelf.new) (S.faults shelf.new)) files.now) }
+        (Stores (device (S.holds shelf.old) (S.faults shelf.old))
+        (device (S.holds shelf.new) (S.faults shelf.new)) files.now) }
     ensures err { IfErr result
-        (StopsAtFile (device (S.holds shelf.old) (S.faults shelf.old)) (device (S.holds shelf.new) (S.faults shelf.new)) files.now) }
+        (StopsAtFile (device (S.holds shelf.old) (S.faults shelf.old))
+        (device (S.holds shelf.new) (S.faults shelf.new)) files.now) }
     ensures later { S.faults shelf.old ≤ S.faults shelf.new }
 {
     for (at, file) in files.iter().enumerate() {

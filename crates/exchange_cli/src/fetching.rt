@@ -17,9 +17,12 @@ pub fn fetch<S: Shelf>(
     name: &Text,
     limit: usize,
 ) -> Result<Bytes, Ending>
-    ensures keeps { Keeps (device (S.holds shelf.old) (S.faults shelf.old)) (device (S.holds shelf.new) (S.faults shelf.new)) }
-    ensures gives { IfOk result (λ bytes. IfSome (S.holds shelf.old) (λ held. Gives held name.now limit bytes)) }
-    ensures fails { IfErr result (FailsToFetch (device (S.holds shelf.old) (S.faults shelf.old)) (device (S.holds shelf.new) (S.faults shelf.new)) name.now limit) }
+    ensures keeps { Keeps (device (S.holds shelf.old) (S.faults shelf.old))
+        (device (S.holds shelf.new) (S.faults shelf.new)) }
+    ensures gives { IfOk result (λ bytes. IfSome (S.holds shelf.old)
+        (λ held. Gives held name.now limit bytes)) }
+    ensures fails { IfErr result (FailsToFetch (device (S.holds shelf.old) (S.faults shelf.old))
+        (device (S.holds shelf.new) (S.faults shelf.new)) name.now limit) }
 {
     match shelf.fetch(alloc, name.as_str(), limit) {
         Ok(Fetched::Bytes(bytes)) => Ok(bytes),

@@ -37,9 +37,12 @@ pub fn read_inputs<S: Shelf>(
     shelf: &mut S,
     command: &Exchange<'_>,
 ) -> Result<Inputs, Ending>
-    ensures keeps { Keeps (device (S.holds shelf.old) (S.faults shelf.old)) (device (S.holds shelf.new) (S.faults shelf.new)) }
-    ensures reads { IfOk result (λ inputs. IfSome (S.holds shelf.old) (λ held. Reads held (command_of command.now) (read_of inputs))) }
-    ensures stops { IfErr result (StopsEarly (device (S.holds shelf.old) (S.faults shelf.old)) (device (S.holds shelf.new) (S.faults shelf.new)) (command_of command.now)) }
+    ensures keeps { Keeps (device (S.holds shelf.old) (S.faults shelf.old))
+        (device (S.holds shelf.new) (S.faults shelf.new)) }
+    ensures reads { IfOk result (λ inputs. IfSome (S.holds shelf.old)
+        (λ held. Reads held (command_of command.now) (read_of inputs))) }
+    ensures stops { IfErr result (StopsEarly (device (S.holds shelf.old) (S.faults shelf.old))
+        (device (S.holds shelf.new) (S.faults shelf.new)) (command_of command.now)) }
     ensures copyable { IfOk result (λ inputs. AreCopyable inputs.mapping inputs.facts) }
 {
     let mapping = fetch_mapping(alloc, shelf, command)?;
@@ -53,9 +56,12 @@ fn fetch_mapping<S: Shelf>(
     shelf: &mut S,
     command: &Exchange<'_>,
 ) -> Result<CopyMapping, Ending>
-    ensures keeps { Keeps (device (S.holds shelf.old) (S.faults shelf.old)) (device (S.holds shelf.new) (S.faults shelf.new)) }
-    ensures reads { IfOk result (λ mapping. IfSome (S.holds shelf.old) (λ held. ReadsMapping held (command_of command.now) (rules_of mapping))) }
-    ensures stops { IfErr result (StopsEarly (device (S.holds shelf.old) (S.faults shelf.old)) (device (S.holds shelf.new) (S.faults shelf.new)) (command_of command.now)) }
+    ensures keeps { Keeps (device (S.holds shelf.old) (S.faults shelf.old))
+        (device (S.holds shelf.new) (S.faults shelf.new)) }
+    ensures reads { IfOk result (λ mapping. IfSome (S.holds shelf.old)
+        (λ held. ReadsMapping held (command_of command.now) (rules_of mapping))) }
+    ensures stops { IfErr result (StopsEarly (device (S.holds shelf.old) (S.faults shelf.old))
+        (device (S.holds shelf.new) (S.faults shelf.new)) (command_of command.now)) }
     ensures sound { IfOk result IsSound }
 {
     let name = Text::from_str(alloc, command.mapping)?;
@@ -74,11 +80,15 @@ fn fetch_table<S: Shelf>(
     command: &Exchange<'_>,
     mapping: &CopyMapping,
 ) -> Result<Items<Stamped>, Ending>
-    ensures keeps { Keeps (device (S.holds shelf.old) (S.faults shelf.old)) (device (S.holds shelf.new) (S.faults shelf.new)) }
-    ensures reads { IfOk result (λ facts. IfSome (S.holds shelf.old) (λ held.
-        ReadsTables held command.now.source.now tables_limit (mapping.now.source ∷ []) (facts ∷ []))) }
-    ensures stops { IfErr result (λ ending. ReadsMappingIn (S.holds shelf.old) (command_of command.now) (rules_of mapping.now)
-        → StopsEarly (device (S.holds shelf.old) (S.faults shelf.old)) (device (S.holds shelf.new) (S.faults shelf.new)) (command_of command.now) ending) }
+    ensures keeps { Keeps (device (S.holds shelf.old) (S.faults shelf.old))
+        (device (S.holds shelf.new) (S.faults shelf.new)) }
+    ensures reads { IfOk result (λ facts. IfSome (S.holds shelf.old)
+        (λ held. ReadsTables held command.now.source.now tables_limit
+        (mapping.now.source ∷ []) (facts ∷ []))) }
+    ensures stops { IfErr result (λ ending.
+        ReadsMappingIn (S.holds shelf.old) (command_of command.now) (rules_of mapping.now)
+        → StopsEarly (device (S.holds shelf.old) (S.faults shelf.old))
+        (device (S.holds shelf.new) (S.faults shelf.new)) (command_of command.now) ending) }
     ensures wide { IfOk result (All (λ fact. length fact.row ≡ length mapping.now.source.columns)) }
 {
     let name = name_table(alloc, command.source, &mapping.source.name)?;

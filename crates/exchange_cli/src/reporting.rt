@@ -9,7 +9,8 @@ use shelf_core::Sink;
 
 /// Writes the line of an ending that has one. A fault of the sink changes nothing else.
 pub fn report<E: Sink>(err: &mut E, ending: &Ending)
-    ensures { Says (device (E.text err.old) (E.faults err.old)) (device (E.text err.new) (E.faults err.new)) (line_of ending.now) }
+    ensures { Says (device (E.text err.old) (E.faults err.old))
+        (device (E.text err.new) (E.faults err.new)) (line_of ending.now) }
 {
     match ending {
         Ending::Done => {}
@@ -27,7 +28,8 @@ pub fn report<E: Sink>(err: &mut E, ending: &Ending)
 
 // Writes a line of two parts, unless the sink fails.
 fn say<E: Sink>(err: &mut E, kind: &[u8], about: &[u8])
-    ensures { Says (device (E.text err.old) (E.faults err.old)) (device (E.text err.new) (E.faults err.new)) (line (kind.now ++ about.now)) }
+    ensures { Says (device (E.text err.old) (E.faults err.old))
+        (device (E.text err.new) (E.faults err.new)) (line (kind.now ++ about.now)) }
 {
     if err.put(kind).is_ok() && err.put(about).is_ok() {
         let _ = err.put(b"\n");

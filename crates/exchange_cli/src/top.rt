@@ -1,7 +1,7 @@
 //! The one call that the program makes.
 
 ghost use Rattle.std.specs.Prelude.{◌≡◌, map, string_bytes};
-ghost use Rattle.exchange_cli.specs.Run.{device, moment, Causes, Ends, Says};
+ghost use Rattle.exchange_cli.specs.Run.{device, seen, Causes, Ends, Says};
 ghost use Rattle.exchange_cli.specs.Endings.{line_of};
 ghost use Rattle.exchange_cli.specs.Headline.{WordsClause, StatusClause, TargetClause, OutputClause, StoreClause};
 
@@ -25,23 +25,25 @@ pub fn run<S: Shelf, O: Sink, E: Sink>(
     err: &mut E,
 ) -> u8
     ensures ends { Ends (map string_bytes words.now.items)
-        (moment (device (S.holds shelf.old) (S.faults shelf.old)) (device (O.text out.old) (O.faults out.old)))
-        (moment (device (S.holds shelf.new) (S.faults shelf.new)) (device (O.text out.new) (O.faults out.new)))
-        (device (E.text err.old) (E.faults err.old)) (device (E.text err.new) (E.faults err.new)) result }
+        (seen S.holds S.faults O.text O.faults shelf.old out.old)
+        (seen S.holds S.faults O.text O.faults shelf.new out.new)
+        (device (E.text err.old) (E.faults err.old))
+        (device (E.text err.new) (E.faults err.new)) result }
     ensures words { WordsClause (map string_bytes words.now.items) result }
     ensures untouched { result ≡ 5 → shelf.new ≡ shelf.old }
 
     // The clauses under the headline.
     ensures status { StatusClause (map string_bytes words.now.items)
-        (moment (device (S.holds shelf.old) (S.faults shelf.old)) (device (O.text out.old) (O.faults out.old)))
-        (moment (device (S.holds shelf.new) (S.faults shelf.new)) (device (O.text out.new) (O.faults out.new))) result }
+        (seen S.holds S.faults O.text O.faults shelf.old out.old)
+        (seen S.holds S.faults O.text O.faults shelf.new out.new) result }
     ensures target { TargetClause (map string_bytes words.now.items)
-        (moment (device (S.holds shelf.old) (S.faults shelf.old)) (device (O.text out.old) (O.faults out.old)))
-        (moment (device (S.holds shelf.new) (S.faults shelf.new)) (device (O.text out.new) (O.faults out.new))) result }
-    ensures output { OutputClause (device (O.text out.old) (O.faults out.old)) (device (O.text out.new) (O.faults out.new)) result }
+        (seen S.holds S.faults O.text O.faults shelf.old out.old)
+        (seen S.holds S.faults O.text O.faults shelf.new out.new) result }
+    ensures output { OutputClause (device (O.text out.old) (O.faults out.old))
+        (device (O.text out.new) (O.faults out.new)) result }
     ensures stores { StoreClause
-        (moment (device (S.holds shelf.old) (S.faults shelf.old)) (device (O.text out.old) (O.faults out.old)))
-        (moment (device (S.holds shelf.new) (S.faults shelf.new)) (device (O.text out.new) (O.faults out.new))) result }
+        (seen S.holds S.faults O.text O.faults shelf.old out.old)
+        (seen S.holds S.faults O.text O.faults shelf.new out.new) result }
 {
     let ending = work(alloc, words.as_slice(), shelf, out);
     report(err, &ending);
@@ -51,7 +53,8 @@ pub fn run<S: Shelf, O: Sink, E: Sink>(
 /// Ends as `run` does for want of memory, for a program that has no memory for its words.
 pub fn end_without_memory<E: Sink>(err: &mut E) -> u8
     ensures status { result ≡ 4 }
-    ensures line { Says (device (E.text err.old) (E.faults err.old)) (device (E.text err.new) (E.faults err.new)) (line_of Ending.Memory) }
+    ensures line { Says (device (E.text err.old) (E.faults err.old))
+        (device (E.text err.new) (E.faults err.new)) (line_of Ending.Memory) }
 {
     let ending = Ending::Memory;
     report(err, &ending);
@@ -61,8 +64,8 @@ pub fn end_without_memory<E: Sink>(err: &mut E) -> u8
 // All but the line on the standard error.
 fn work<S: Shelf, O: Sink>(alloc: Global, words: &[String], shelf: &mut S, out: &mut O) -> Ending
     ensures causes { Causes (map string_bytes words.now)
-        (moment (device (S.holds shelf.old) (S.faults shelf.old)) (device (O.text out.old) (O.faults out.old)))
-        (moment (device (S.holds shelf.new) (S.faults shelf.new)) (device (O.text out.new) (O.faults out.new))) result }
+        (seen S.holds S.faults O.text O.faults shelf.old out.old)
+        (seen S.holds S.faults O.text O.faults shelf.new out.new) result }
     ensures untouched { result ≡ Ending.Words → shelf.new ≡ shelf.old }
 {
     let Some(command) = read_words(words) else {

@@ -6,5 +6,9 @@ pub mod HomomorphismLemmas
 pub mod CopyLemmas
 pub mod ConstantLemmas
 pub mod TableLemmas
+pub mod ValidityLemmas
+pub mod RebaseLemmas
+pub mod FrontierLemmas
+pub mod NumberingLemmas
 mod DefinitionFacts
 mod WorkedFacts

@@ -42,6 +42,7 @@ copying = record {
   targets = relation (codes "B") (codes "x" ∷ []) ∷ [];
   tgds = copy_rule ∷ [];
   egds = [];
+  queries = [];
 }
 
 copying_copies : IsCopy copying (atom_of (0 ∷ [])) (atom_of (0 ∷ []))
@@ -170,6 +171,7 @@ exists_some = record {
   targets = relation (codes "B") (codes "x" ∷ codes "z" ∷ []) ∷ [];
   tgds = some_rule ∷ [];
   egds = [];
+  queries = [];
 }
 
 abbrev fact : TermOf (List ℕ) → TermOf (List ℕ) → FactOf (List ℕ)
@@ -286,6 +288,7 @@ keyed = record {
   targets = relation (codes "P") (codes "x" ∷ codes "y" ∷ []) ∷ [];
   tgds = copy_both ∷ [];
   egds = one_value ∷ [];
+  queries = [];
 }
 
 abbrev from_2016 : FactOf (List ℕ) → Option ℤ → StampedOf (FactOf (List ℕ))

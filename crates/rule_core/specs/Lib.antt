@@ -8,3 +8,8 @@ pub mod Solution
 pub mod Coalesced
 pub mod Copy
 pub mod Tables
+pub mod Names
+pub mod Validity
+pub mod Adding
+pub mod Frontier
+pub mod Rebase

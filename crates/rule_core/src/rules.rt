@@ -2,6 +2,13 @@
 
 use term_core::{ConstId, Items, Text};
 
+/// A side of a mapping.
+#[derive(Clone, Copy, Debug, PartialEq, Eq)]
+pub enum Place {
+    Source,
+    Target,
+}
+
 /// A relation: its name and the names of its columns.
 #[derive(Debug, Drop, PartialEq, Eq)]
 pub struct Relation {
@@ -42,4 +49,20 @@ pub struct Egd {
     pub body: Items<Atom>,
     pub left: u32,
     pub right: u32,
+}
+
+/// A disjunct of a query, and for each head variable the variable of the same name here.
+#[derive(Debug, Drop, PartialEq, Eq)]
+pub struct Branch {
+    pub vars: Items<Text>,
+    pub body: Items<Atom>,
+    pub columns: Items<u32>,
+}
+
+/// A query on the target: the names of its head variables, and its disjuncts.
+#[derive(Debug, Drop, PartialEq, Eq)]
+pub struct Query {
+    pub name: Text,
+    pub head: Items<Text>,
+    pub branches: Items<Branch>,
 }

@@ -1,0 +1,6 @@
+pub mod QuoteLemmas
+pub mod InsideLemmas
+pub mod GapLemmas
+pub mod ScanLemmas
+pub mod OnceLemmas
+pub mod NextLemmas

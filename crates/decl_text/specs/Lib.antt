@@ -1,0 +1,4 @@
+pub mod Quotes
+pub mod Tokens
+pub mod Pieces
+pub mod TokenList

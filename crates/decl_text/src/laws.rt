@@ -1,0 +1,43 @@
+//! Laws of the definitions: what stands next is one thing, and quoted texts are read back.
+
+ghost use Rattle.std.specs.Prelude.{◌≡◌, ◌+◌, ℕ, List, ◌++◌, length, Option};
+ghost use Rattle.decl_text.specs.declared.token.Kind.TheVariants as kinds;
+ghost use Rattle.decl_text.specs.declared.token.Token.{Token as TokenValue};
+ghost use Rattle.decl_text.specs.declared.fault.MappingFault.{MappingFault as FaultValue};
+ghost use Rattle.decl_text.specs.Quotes.{IsQuoted};
+ghost use Rattle.decl_text.specs.Tokens.{IsNextToken, IsNextFault};
+ghost use Rattle.decl_text.specs.TokenList.{AreTokens};
+
+/// From a place on, no two tokens stand next, no two faults, and not a token and a fault: so what
+/// `next_token` answers is all that the definitions allow.
+pub fn one_token_or_one_fault_stands_next()
+    ensures token { (bytes : List ℕ) (from : ℕ) (a b : TokenValue)
+        → IsNextToken bytes from a → IsNextToken bytes from b → a ≡ b }
+    ensures fault { (bytes : List ℕ) (from : ℕ) (a b : FaultValue)
+        → IsNextFault bytes from a → IsNextFault bytes from b → a ≡ b }
+    ensures apart { (bytes : List ℕ) (from : ℕ) (a : TokenValue) (b : FaultValue)
+        → IsNextToken bytes from a → ¬ (IsNextFault bytes from b) }
+{}
+
+/// From a place on, the bytes have one list of tokens, and one fault after it or none.
+pub fn bytes_have_one_list_of_tokens()
+    ensures tokens { (bytes : List ℕ) (from : ℕ) (a b : List TokenValue) (p q : Option FaultValue)
+        → AreTokens bytes from a p → AreTokens bytes from b q → a ≡ b }
+    ensures fault { (bytes : List ℕ) (from : ℕ) (a b : List TokenValue) (p q : Option FaultValue)
+        → AreTokens bytes from a p → AreTokens bytes from b q → p ≡ q }
+{}
+
+/// A text in quotes is a token wherever it stands, it is of one text, and a text stands in quotes in
+/// one way: reading what is printed gives the text again.
+pub fn quoted_texts_are_read_back()
+    ensures token { (before quoted text rest : List ℕ) → IsQuoted quoted text
+        → IsNextToken (before ++ (quoted ++ rest)) (length before) (record {
+          kind = kinds.Quoted;
+          start = length before;
+          end = length before + length quoted;
+        }) }
+    ensures read { (quoted text other : List ℕ)
+        → IsQuoted quoted text → IsQuoted quoted other → text ≡ other }
+    ensures printed { (quoted other text : List ℕ)
+        → IsQuoted quoted text → IsQuoted other text → quoted ≡ other }
+{}

@@ -1,0 +1,15 @@
+//! The tokens of a mapping text, each with its place, or the first fault; and texts in quotes, both ways.
+#![tactic(auto)]
+
+mod fault;
+pub mod laws;
+mod quotes;
+mod scan;
+#[cfg(test)]
+mod tests;
+mod token;
+
+pub use fault::{Code, MappingFault, ReadError};
+pub use quotes::{print_quoted, quoted};
+pub use scan::next_token;
+pub use token::{Kind, Token};

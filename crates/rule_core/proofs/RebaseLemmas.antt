@@ -1,0 +1,148 @@
+-- Other numbers for constants leave a mapping valid, and a list of numbers is made text by text.
+use Rattle.std.proofs.Common.{◌≡◌, ℕ, ◌+◌, ◌<◌, ◌≤◌, List, [], ◌∷◌, ◌++◌, length, map, get_or, refl, sym, ap, ◌∙◌, subst, arith, ⊎_elim, All, AllPairs}
+use Rattle.std.specs.Prelude.{◌≢◌, IsSomeAnd, slice_get, slice_index_or}
+use Rattle.std.proofs.Math.ListN.{get_or-append}
+use Rattle.std.proofs.Math.Seq.{get_or-append_seam}
+use Rattle.std.proofs.lemmas.Bool.{cases_lt}
+use Rattle.std.proofs.lemmas.List.{length-map, length_push, get_or_past}
+use Rattle.std.proofs.lemmas.List.Elements.{All-map, All-weaker}
+use Rattle.term_core.specs.declared.const_id.ConstId.{ConstId}
+use Rattle.rule_core.specs.declared.rules.Arg.{Arg}
+use Rattle.rule_core.specs.declared.rules.Arg.TheVariants.{Var, Const}
+use Rattle.rule_core.specs.declared.rules.Atom.{Atom}
+use Rattle.rule_core.specs.declared.rules.Branch.{Branch}
+use Rattle.rule_core.specs.declared.rules.Egd.{Egd}
+use Rattle.rule_core.specs.declared.rules.Query.{Query}
+use Rattle.rule_core.specs.declared.rules.Relation.{Relation}
+use Rattle.rule_core.specs.declared.rules.Tgd.{Tgd}
+use Rattle.rule_core.specs.Mapping.{RuleSet}
+use Rattle.rule_core.specs.Validity.{variables_in, occurrences, AreNumbered, IsWithin, FitsRelation, AreAtoms, IsTgd, IsEgd, IsBranch, IsQuery, IsValid}
+use Rattle.rule_core.specs.Rebase.{KeepsTexts, number_in, renumbered_arg, renumbered_atom, renumbered_tgd, renumbered_egd, renumbered_branch, renumbered_query, renumbered}
+use Rattle.rule_core.proofs.ListLemmas.{AllPairs-map}
+
+-- the list has the number of each of the first n texts
+pub record AreNumbers (from to : List (List ℕ)) (ids : List ConstId) (n : ℕ) : Type 0 where
+  pub size : length ids ≡ n
+  pub texts : (c : ConstId) → c.0 < n → slice_get to (number_in ids c).0 ≡ slice_get from c.0
+
+module _ (from to : List (List ℕ)) where
+  pub numbers_none : AreNumbers from to [] 0
+  numbers_none = record { size = refl; texts = λ c lt. absurd (omega (arith, lt)) }
+
+  pub numbers_more : (ids : List ConstId) (n : ℕ) (id : ConstId) → AreNumbers from to ids n → slice_get to id.0 ≡ slice_get from n
+      → AreNumbers from to (ids ++ id ∷ []) (n + 1)
+  numbers_more ids n id h same = record {
+    size = omega (arith, h.size, length_push ids id);
+    texts = λ c lt. ⊎_elim
+        (λ old. ap (λ d. slice_get to d.0) (get_or-append ids (id ∷ []) c c.0 (omega (arith, h.size, old))) ∙ h.texts c old)
+        (λ last.
+        let e : c.0 ≡ length ids = omega (arith, lt, last, h.size) in
+        ap (λ k. slice_get to (get_or (ids ++ id ∷ []) k c).0) e ∙ ap (λ d. slice_get to d.0) (get_or-append_seam ids id [] c)
+        ∙ same ∙ ap (slice_get from) (sym (e ∙ h.size)))
+        (cases_lt c.0 n);
+  }
+
+  pub numbers_all : (ids : List ConstId) → AreNumbers from to ids (length from) → KeepsTexts from to (number_in ids)
+  numbers_all ids h = record {
+    texts = h.texts;
+    others = λ c past. get_or_past ids c.0 c (omega (arith, h.size, past));
+  }
+
+module _ (number : ConstId → ConstId) where
+  variables_same : (args : List Arg) → variables_in (map (renumbered_arg number) args) ≡ variables_in args
+  variables_same [] = refl
+  variables_same (Var v ∷ args) = ap (λ l. v ∷ l) (variables_same args)
+  variables_same (Const c ∷ args) = variables_same args
+
+  occurrences_same : (atoms : List Atom) → occurrences (map (renumbered_atom number) atoms) ≡ occurrences atoms
+  occurrences_same [] = refl
+  occurrences_same (atom ∷ atoms) = λ i. variables_same atom.args i ++ occurrences_same atoms i
+
+  within_same : (n : ℕ) (arg : Arg) → IsWithin n arg → IsWithin n (renumbered_arg number arg)
+  within_same n (Var v) h = h
+  within_same n (Const c) h = h
+
+  fits_same : (relations : List Relation) (atom : Atom) → FitsRelation relations atom → FitsRelation relations (renumbered_atom number atom)
+  fits_same relations atom h =
+      subst (λ n. IsSomeAnd (slice_get relations atom.relation) (λ r. n ≡ length r.columns)) (sym (length-map atom.args (renumbered_arg number))) h
+
+  -- what each element as it is mapped meets, the mapped list meets
+  all_mapped : {X : Type 0} (P : X → Type 0) (g : X → X) → ((x : X) → P x → P (g x)) → (xs : List X) → All P xs → All P (map g xs)
+  all_mapped P g keeps xs h = All-map P g xs (All-weaker P (λ x. P (g x)) keeps xs h)
+
+  atoms_same : (relations : List Relation) (atoms : List Atom) → AreAtoms relations atoms
+      → AreAtoms relations (map (renumbered_atom number) atoms)
+  atoms_same relations atoms h = record {
+    some = omega (arith, h.some, length-map atoms (renumbered_atom number));
+    most = omega (arith, h.most, length-map atoms (renumbered_atom number));
+    fit = all_mapped (FitsRelation relations) (renumbered_atom number) (fits_same relations) atoms h.fit;
+  }
+
+  numbered_same : (n : ℕ) (atoms : List Atom) → AreNumbered n (occurrences atoms)
+      → AreNumbered n (occurrences (map (renumbered_atom number) atoms))
+  numbered_same n atoms h = subst (AreNumbered n) (sym (occurrences_same atoms)) h
+
+  tgd_same : (sources targets : List Relation) (tgd : Tgd) → IsTgd sources targets tgd → IsTgd sources targets (renumbered_tgd number tgd)
+  tgd_same sources targets tgd h = record {
+    name = h.name;
+    vars = h.vars;
+    body = atoms_same sources tgd.body h.body;
+    head = atoms_same targets tgd.head h.head;
+    body_vars = numbered_same tgd.body_vars tgd.body h.body_vars;
+    within = h.within;
+    safe = all_mapped (λ atom. All (IsWithin (length tgd.vars)) atom.args) (renumbered_atom number)
+        (λ atom. all_mapped (IsWithin (length tgd.vars)) (renumbered_arg number) (within_same (length tgd.vars)) atom.args) tgd.head h.safe;
+  }
+
+  egd_same : (targets : List Relation) (egd : Egd) → IsEgd targets egd → IsEgd targets (renumbered_egd number egd)
+  egd_same targets egd h = record {
+    name = h.name;
+    vars = h.vars;
+    body = atoms_same targets egd.body h.body;
+    body_vars = numbered_same (length egd.vars) egd.body h.body_vars;
+    left = h.left;
+    right = h.right;
+  }
+
+  branch_same : (targets : List Relation) (head : List (List ℕ)) (branch : Branch) → IsBranch targets head branch
+      → IsBranch targets head (renumbered_branch number branch)
+  branch_same targets head branch h = record {
+    vars = h.vars;
+    body = atoms_same targets branch.body h.body;
+    body_vars = numbered_same (length branch.vars) branch.body h.body_vars;
+    arity = h.arity;
+    columns = h.columns;
+  }
+
+  query_same : (targets : List Relation) (query : Query) → IsQuery targets query → IsQuery targets (renumbered_query number query)
+  query_same targets query h = record {
+    name = h.name;
+    head = h.head;
+    head_most = h.head_most;
+    distinct = h.distinct;
+    some = omega (arith, h.some, length-map query.branches (renumbered_branch number));
+    most = omega (arith, h.most, length-map query.branches (renumbered_branch number));
+    branches = all_mapped (IsBranch targets query.head) (renumbered_branch number) (branch_same targets query.head) query.branches h.branches;
+  }
+
+  -- validity does not look at constants
+  pub renumbered_valid : (rules : RuleSet) → IsValid rules → IsValid (renumbered number rules)
+  renumbered_valid rules h = record {
+    relations = h.relations;
+    rules = record {
+      tgds = all_mapped (IsTgd rules.sources rules.targets) (renumbered_tgd number) (tgd_same rules.sources rules.targets) rules.tgds h.rules.tgds;
+      egds = all_mapped (IsEgd rules.targets) (renumbered_egd number) (egd_same rules.targets) rules.egds h.rules.egds;
+      most_tgds = omega (arith, h.rules.most_tgds, length-map rules.tgds (renumbered_tgd number));
+      most_egds = omega (arith, h.rules.most_egds, length-map rules.egds (renumbered_egd number));
+      tgd_names = AllPairs-map (λ a b. a.name ≢ b.name) (renumbered_tgd number) rules.tgds h.rules.tgd_names;
+      egd_names = AllPairs-map (λ a b. a.name ≢ b.name) (renumbered_egd number) rules.egds h.rules.egd_names;
+      kinds = All-map (λ t. All (λ e. t.name ≢ e.name) (map (renumbered_egd number) rules.egds)) (renumbered_tgd number) rules.tgds
+          (All-weaker (λ t. All (λ e. t.name ≢ e.name) rules.egds) (λ t. All (λ e. t.name ≢ e.name) (map (renumbered_egd number) rules.egds))
+          (λ t. All-map (λ e. t.name ≢ e.name) (renumbered_egd number) rules.egds) rules.tgds h.rules.kinds);
+    };
+    queries = record {
+      each = all_mapped (IsQuery rules.targets) (renumbered_query number) (query_same rules.targets) rules.queries h.queries.each;
+      most = omega (arith, h.queries.most, length-map rules.queries (renumbered_query number));
+      names = AllPairs-map (λ a b. a.name ≢ b.name) (renumbered_query number) rules.queries h.queries.names;
+    };
+  }
