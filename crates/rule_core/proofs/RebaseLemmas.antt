@@ -1,10 +1,7 @@
--- Other numbers for constants leave a mapping valid, and a list of numbers is made text by text.
-use Rattle.std.proofs.Common.{◌≡◌, ℕ, ◌+◌, ◌<◌, ◌≤◌, List, [], ◌∷◌, ◌++◌, length, map, get_or, refl, sym, ap, ◌∙◌, subst, arith, ⊎_elim, All, AllPairs}
-use Rattle.std.specs.Prelude.{◌≢◌, IsSomeAnd, slice_get, slice_index_or}
-use Rattle.std.proofs.Math.ListN.{get_or-append}
-use Rattle.std.proofs.Math.Seq.{get_or-append_seam}
-use Rattle.std.proofs.lemmas.Bool.{cases_lt}
-use Rattle.std.proofs.lemmas.List.{length-map, length_push, get_or_past}
+-- Other numbers for constants leave a mapping valid.
+use Rattle.std.proofs.Common.{◌≡◌, ℕ, ◌<◌, List, [], ◌∷◌, ◌++◌, length, map, refl, sym, ap, subst, arith, All}
+use Rattle.std.specs.Prelude.{◌≢◌, IsSomeAnd, slice_get}
+use Rattle.std.proofs.lemmas.List.{length-map}
 use Rattle.std.proofs.lemmas.List.Elements.{All-map, All-weaker}
 use Rattle.term_core.specs.declared.const_id.ConstId.{ConstId}
 use Rattle.rule_core.specs.declared.rules.Arg.{Arg}
@@ -17,36 +14,13 @@ use Rattle.rule_core.specs.declared.rules.Relation.{Relation}
 use Rattle.rule_core.specs.declared.rules.Tgd.{Tgd}
 use Rattle.rule_core.specs.Mapping.{RuleSet}
 use Rattle.rule_core.specs.Validity.{variables_in, occurrences, AreNumbered, IsWithin, FitsRelation, AreAtoms, IsTgd, IsEgd, IsBranch, IsQuery, IsValid}
-use Rattle.rule_core.specs.Rebase.{KeepsTexts, number_in, renumbered_arg, renumbered_atom, renumbered_tgd, renumbered_egd, renumbered_branch, renumbered_query, renumbered}
+use Rattle.rule_core.specs.Rebase.{number_in, renumbered_arg, renumbered_atom, renumbered_tgd, renumbered_egd, renumbered_branch, renumbered_query, renumbered}
 use Rattle.rule_core.proofs.ListLemmas.{AllPairs-map}
 
 -- the list has the number of each of the first n texts
 pub record AreNumbers (from to : List (List ℕ)) (ids : List ConstId) (n : ℕ) : Type 0 where
   pub size : length ids ≡ n
   pub texts : (c : ConstId) → c.0 < n → slice_get to (number_in ids c).0 ≡ slice_get from c.0
-
-module _ (from to : List (List ℕ)) where
-  pub numbers_none : AreNumbers from to [] 0
-  numbers_none = record { size = refl; texts = λ c lt. absurd (omega (arith, lt)) }
-
-  pub numbers_more : (ids : List ConstId) (n : ℕ) (id : ConstId) → AreNumbers from to ids n → slice_get to id.0 ≡ slice_get from n
-      → AreNumbers from to (ids ++ id ∷ []) (n + 1)
-  numbers_more ids n id h same = record {
-    size = omega (arith, h.size, length_push ids id);
-    texts = λ c lt. ⊎_elim
-        (λ old. ap (λ d. slice_get to d.0) (get_or-append ids (id ∷ []) c c.0 (omega (arith, h.size, old))) ∙ h.texts c old)
-        (λ last.
-        let e : c.0 ≡ length ids = omega (arith, lt, last, h.size) in
-        ap (λ k. slice_get to (get_or (ids ++ id ∷ []) k c).0) e ∙ ap (λ d. slice_get to d.0) (get_or-append_seam ids id [] c)
-        ∙ same ∙ ap (slice_get from) (sym (e ∙ h.size)))
-        (cases_lt c.0 n);
-  }
-
-  pub numbers_all : (ids : List ConstId) → AreNumbers from to ids (length from) → KeepsTexts from to (number_in ids)
-  numbers_all ids h = record {
-    texts = h.texts;
-    others = λ c past. get_or_past ids c.0 c (omega (arith, h.size, past));
-  }
 
 module _ (number : ConstId → ConstId) where
   variables_same : (args : List Arg) → variables_in (map (renumbered_arg number) args) ≡ variables_in args

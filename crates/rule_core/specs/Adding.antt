@@ -19,13 +19,15 @@ abbrev pub with_relation : RuleSet → Place → Relation → RuleSet
 with_relation rules Source relation = record rules { sources = rules.sources ++ relation ∷ [] }
 with_relation rules Target relation = record rules { targets = rules.targets ++ relation ∷ [] }
 
--- the mapping with one more tgd, egd or query, as the last of its kind
+-- the mapping with one more tgd as the last
 abbrev pub with_tgd : RuleSet → Tgd → RuleSet
 with_tgd rules tgd = record rules { tgds = rules.tgds ++ tgd ∷ [] }
 
+-- the mapping with one more egd as the last
 abbrev pub with_egd : RuleSet → Egd → RuleSet
 with_egd rules egd = record rules { egds = rules.egds ++ egd ∷ [] }
 
+-- the mapping with one more query as the last
 abbrev pub with_query : RuleSet → Query → RuleSet
 with_query rules query = record rules { queries = rules.queries ++ query ∷ [] }
 

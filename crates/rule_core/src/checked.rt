@@ -85,6 +85,13 @@ impl Rules {
         &self.queries
     }
 
+    /// They are valid: the fact that the type keeps.
+    pub fn are_valid(&self)
+        ensures { IsValid self.now }
+    {
+        let _ = &self.sources;
+    }
+
     /// The side and the place there of the relation with the name, if there is one.
     pub fn find(&self, name: &str) -> Option<(Place, u32)>
         ensures found { IfSome result (λ at. IsNamedAt self.now name.now at.0 at.1) }
@@ -118,6 +125,7 @@ impl Rules {
             Place::Target => self.targets.push(relation),
         }
     }
+
     /// Whether the mapping stays valid with this tgd as the last.
     pub fn fits_tgd(&self, tgd: &Tgd) -> bool
         ensures { IsTrue result ↔ IsValid (with_tgd self.now tgd.now) }
@@ -141,6 +149,7 @@ impl Rules {
     {
         self.tgds.push(tgd)
     }
+
     /// Whether the mapping stays valid with this egd as the last.
     pub fn fits_egd(&self, egd: &Egd) -> bool
         ensures { IsTrue result ↔ IsValid (with_egd self.now egd.now) }

@@ -3,6 +3,9 @@
 ghost use Rattle.std.specs.Prelude.{◌≡◌, ℕ, List, Some, Contains, map, slice_get, IfOk};
 ghost use Rattle.rule_core.specs.Rebase.{KeepsTexts, number_in, renumbered_arg, renumbered_atom, renumbered_tgd, renumbered_egd, renumbered_branch, renumbered_query};
 
+#[cfg(test)]
+mod tests;
+
 use crate::{Arg, Atom, Branch, Egd, Query, Relation, Tgd};
 use std::alloc::Global;
 use term_core::{ConstId, Items, Memory, Pool, Text};
@@ -29,11 +32,7 @@ fn number_of(pool: &Pool, text: &str) -> ConstId
 }
 
 /// Tgds with other numbers for their constants.
-pub fn rebased_tgds(
-    alloc: Global,
-    ids: &[ConstId],
-    tgds: &[Tgd],
-) -> Result<Items<Tgd>, Memory>
+pub fn rebased_tgds(alloc: Global, ids: &[ConstId], tgds: &[Tgd]) -> Result<Items<Tgd>, Memory>
     ensures { IfOk result (λ copies. copies ≡ map (renumbered_tgd (number_in ids.now)) tgds.now) }
 {
     let mut copies = Items::new(alloc);
@@ -44,11 +43,7 @@ pub fn rebased_tgds(
 }
 
 /// Egds with other numbers for their constants.
-pub fn rebased_egds(
-    alloc: Global,
-    ids: &[ConstId],
-    egds: &[Egd],
-) -> Result<Items<Egd>, Memory>
+pub fn rebased_egds(alloc: Global, ids: &[ConstId], egds: &[Egd]) -> Result<Items<Egd>, Memory>
     ensures { IfOk result (λ copies. copies ≡ map (renumbered_egd (number_in ids.now)) egds.now) }
 {
     let mut copies = Items::new(alloc);
@@ -133,11 +128,7 @@ fn rebased_branch(alloc: Global, ids: &[ConstId], branch: &Branch) -> Result<Bra
 }
 
 // Atoms with other numbers for their constants.
-fn rebased_atoms(
-    alloc: Global,
-    ids: &[ConstId],
-    atoms: &[Atom],
-) -> Result<Items<Atom>, Memory>
+fn rebased_atoms(alloc: Global, ids: &[ConstId], atoms: &[Atom]) -> Result<Items<Atom>, Memory>
     ensures { IfOk result (λ copies. copies ≡ map (renumbered_atom (number_in ids.now)) atoms.now) }
 {
     let mut copies = Items::new(alloc);
@@ -157,11 +148,7 @@ fn rebased_atom(alloc: Global, ids: &[ConstId], atom: &Atom) -> Result<Atom, Mem
 }
 
 // Arguments with other numbers for their constants.
-fn rebased_args(
-    alloc: Global,
-    ids: &[ConstId],
-    args: &[Arg],
-) -> Result<Items<Arg>, Memory>
+fn rebased_args(alloc: Global, ids: &[ConstId], args: &[Arg]) -> Result<Items<Arg>, Memory>
     ensures { IfOk result (λ copies. copies ≡ map (renumbered_arg (number_in ids.now)) args.now) }
 {
     let mut copies = Items::new(alloc);

@@ -50,6 +50,11 @@ impl<T> Items<T> {
         items
     }
 
+    /// Where the list's memory comes from.
+    pub fn allocator(&self) -> Global {
+        *self.items.allocator()
+    }
+
     /// The items as a slice.
     pub fn as_slice(&self) -> &[T]
         ensures { result.now ≡ self.now }
