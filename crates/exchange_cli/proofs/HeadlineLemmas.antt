@@ -30,7 +30,8 @@ module _ (words : List (List ℕ)) (before after : Moment) (command : Exchange) 
       other failed.0 failed.1
 
   -- the run is done
-  is_done : (ending : Ending) → status ≡ status_of ending → Causes words before after ending → (status ≡ 0) × Finishes words before after Done
+  is_done : (ending : Ending) → status ≡ status_of ending → Causes words before after ending
+      → (status ≡ 0) × Finishes words before after Done
   is_done Done answer cause = (answer, cause)
   is_done Words answer cause = absurd (cause.0 command free.spelled)
   is_done (Missing name) answer cause = absurd (no_refusal (Missing name) (λ n e. cc) cause.0)
@@ -47,15 +48,18 @@ module _ (words : List (List ℕ)) (before after : Moment) (command : Exchange) 
   has_solution =
       let built = free.reads.mapping.2 in
       let m = built.0 in
-      rw built.2 (copies_have_solutions (name_of inputs) (rules_of m) (atom_of m.body) (atom_of m.head) (copying m built.1.copy) (source_of inputs))
+      rw built.2 (copies_have_solutions (name_of inputs) (rules_of m) (atom_of m.body) (atom_of m.head) (copying m built.1.copy)
+      (source_of inputs))
 
   -- the files are those of what was read
-  are_files : Finishes words before after Done → (files : List FileOut) × AreSolvedFiles inputs command.target files × (after.shelf.content ≡ Some (with_files held files))
+  are_files : Finishes words before after Done
+      → (files : List FileOut) × AreSolvedFiles inputs command.target files × (after.shelf.content ≡ Some (with_files held files))
   are_files finishes =
       let files = finishes.0 in
       let solves = finishes.1 in
       let same = one_command words solves.0 command solves.1 free.spelled in
-      let there = subst (λ c. IfSome c (λ h. (i : Inputs) × Reads h solves.0 i × AreSolvedFiles i solves.0.target files)) free.told solves.2 in
+      let there = subst (λ c. IfSome c (λ h. (i : Inputs) × Reads h solves.0 i
+      × AreSolvedFiles i solves.0.target files)) free.told solves.2 in
       let known = subst (λ (c : Exchange). (i : Inputs) × Reads held c i × AreSolvedFiles i c.target files) same there in
       let read = one_reading held command known.0 inputs known.1 free.reads in (
         files,
@@ -63,39 +67,51 @@ module _ (words : List (List ℕ)) (before after : Moment) (command : Exchange) 
         finishes.2.0 ∙ ap (option_map (λ h. with_files h files)) free.told,
       )
 
-pub status_clause : (words : List (List ℕ)) (before after : Moment) (err now : Device (List ℕ)) (status : ℕ) → Ends words before after err now status
+pub status_clause : (words : List (List ℕ)) (before after : Moment) (err now : Device (List ℕ)) (status : ℕ)
+    → Ends words before after err now status
     → StatusClause words before after status
 status_clause words before after err now status ends = λ command held inputs free.
     let done = is_done words before after command held inputs status free ends.ending ends.answer ends.cause in
     (λ z. has_solution words before after command held inputs status free, λ s. done.0)
 
-pub target_clause : (words : List (List ℕ)) (before after : Moment) (err now : Device (List ℕ)) (status : ℕ) → Ends words before after err now status
+pub target_clause : (words : List (List ℕ)) (before after : Moment) (err now : Device (List ℕ)) (status : ℕ)
+    → Ends words before after err now status
     → TargetClause words before after status
 target_clause words before after err now status ends = λ command held inputs free zero.
-    are_files words before after command held inputs status free (is_done words before after command held inputs status free ends.ending ends.answer ends.cause).1
+    are_files words before after command held inputs status free
+    (is_done words before after command held inputs status free ends.ending ends.answer ends.cause).1
 
--- the same, for each ending
-output_of : (words : List (List ℕ)) (before after : Moment) (status : ℕ) (ending : Ending) → status ≡ status_of ending → Causes words before after ending
-    → OutputClause before.out after.out status
-output_of words before after status Done answer cause = record { done = λ z. cause.2.1; failed = λ z. absurd (omega arith); refused = λ p q. absurd (p answer) }
-output_of words before after status Words answer cause = record { done = λ z. absurd (omega arith); failed = λ z. absurd (omega arith); refused = λ p q. ap (λ (m : Moment). m.out) cause.1 }
-output_of words before after status (Missing name) answer cause = record { done = λ z. absurd (omega arith); failed = λ z. absurd (omega arith); refused = λ p q. cause.1.1 }
-output_of words before after status (TooLong name) answer cause = record { done = λ z. absurd (omega arith); failed = λ z. absurd (omega arith); refused = λ p q. cause.1.1 }
-output_of words before after status NotBuilt answer cause = record { done = λ z. absurd (omega arith); failed = λ z. absurd (omega arith); refused = λ p q. cause.1.1 }
-output_of words before after status (Table name) answer cause = record { done = λ z. absurd (omega arith); failed = λ z. absurd (omega arith); refused = λ p q. cause.1.1 }
-output_of words before after status (Read name) answer cause = record { done = λ z. absurd (omega arith); failed = λ z. inl cause.1.1; refused = λ p q. absurd (q answer) }
-output_of words before after status Memory answer cause = record { done = λ z. absurd (omega arith); failed = λ z. absurd (omega arith); refused = λ p q. cause.2.1 }
-output_of words before after status (Write name) answer cause = record { done = λ z. absurd (omega arith); failed = λ z. inl cause.2.1; refused = λ p q. absurd (q answer) }
-output_of words before after status Output answer cause = record { done = λ z. absurd (omega arith); failed = λ z. inr (cause.2.1, cause.2.2); refused = λ p q. absurd (q answer) }
+-- a run that prints nothing, and whose status is not 0
+quiet : (before after : Device (List ℕ)) (status : ℕ) → (status ≡ 0 → ⊥) → after ≡ before → OutputClause before after status
+quiet before after status other same = record { done = λ z. absurd (other z); failed = λ z. inl same; refused = λ p q. same }
 
-pub output_clause : (words : List (List ℕ)) (before after : Moment) (err now : Device (List ℕ)) (status : ℕ) → Ends words before after err now status
+output_of : (words : List (List ℕ)) (before after : Moment) (status : ℕ) (ending : Ending)
+    → status ≡ status_of ending → Causes words before after ending → OutputClause before.out after.out status
+output_of words before after status Done answer cause =
+    record { done = λ z. cause.2.1; failed = λ z. absurd (omega arith); refused = λ p q. absurd (p answer) }
+output_of words before after status Output answer cause =
+    record { done = λ z. absurd (omega arith); failed = λ z. inr (cause.2.1, cause.2.2); refused = λ p q. absurd (q answer) }
+output_of words before after status Words answer cause =
+    quiet before.out after.out status (λ z. omega arith) (ap (λ (m : Moment). m.out) cause.1)
+output_of words before after status (Missing name) answer cause = quiet before.out after.out status (λ z. omega arith) cause.1.1
+output_of words before after status (TooLong name) answer cause = quiet before.out after.out status (λ z. omega arith) cause.1.1
+output_of words before after status NotBuilt answer cause = quiet before.out after.out status (λ z. omega arith) cause.1.1
+output_of words before after status (Table name) answer cause = quiet before.out after.out status (λ z. omega arith) cause.1.1
+output_of words before after status (Read name) answer cause = quiet before.out after.out status (λ z. omega arith) cause.1.1
+output_of words before after status Memory answer cause = quiet before.out after.out status (λ z. omega arith) cause.2.1
+output_of words before after status (Write name) answer cause = quiet before.out after.out status (λ z. omega arith) cause.2.1
+
+pub output_clause : (words : List (List ℕ)) (before after : Moment) (err now : Device (List ℕ)) (status : ℕ)
+    → Ends words before after err now status
     → OutputClause before.out after.out status
 output_clause words before after err now status ends = output_of words before after status ends.ending ends.answer ends.cause
 
-store_of : (words : List (List ℕ)) (before after : Moment) (status : ℕ) (ending : Ending) → status ≡ status_of ending → Causes words before after ending
+store_of : (words : List (List ℕ)) (before after : Moment) (status : ℕ) (ending : Ending) → status ≡ status_of ending
+    → Causes words before after ending
     → StoreClause before after status
 store_of words before after status Done answer cause = λ p q. absurd (p answer)
-store_of words before after status Words answer cause = λ p q. (ap (λ (m : Moment). m.shelf.content) cause.1, ap (λ (m : Moment). m.out) cause.1)
+store_of words before after status Words answer cause =
+    λ p q. (ap (λ (m : Moment). m.shelf.content) cause.1, ap (λ (m : Moment). m.out) cause.1)
 store_of words before after status (Missing name) answer cause = λ p q. cause.1
 store_of words before after status (TooLong name) answer cause = λ p q. cause.1
 store_of words before after status NotBuilt answer cause = λ p q. cause.1
@@ -105,15 +121,18 @@ store_of words before after status Memory answer cause = λ p q. cause.2
 store_of words before after status (Write name) answer cause = λ p q. absurd (q answer)
 store_of words before after status Output answer cause = λ p q. absurd (q answer)
 
-pub store_clause : (words : List (List ℕ)) (before after : Moment) (err now : Device (List ℕ)) (status : ℕ) → Ends words before after err now status
+pub store_clause : (words : List (List ℕ)) (before after : Moment) (err now : Device (List ℕ)) (status : ℕ)
+    → Ends words before after err now status
     → StoreClause before after status
 store_clause words before after err now status ends = store_of words before after status ends.ending ends.answer ends.cause
 
 -- the words are a command's, so the status is another
-other_words : (words : List (List ℕ)) (status : ℕ) (command : Exchange) → AreExchange words command → (status ≡ 5 → ⊥) → WordsClause words status
+other_words : (words : List (List ℕ)) (status : ℕ) (command : Exchange) → AreExchange words command → (status ≡ 5 → ⊥)
+    → WordsClause words status
 other_words words status command spelled other = (λ five. absurd (other five), λ none. absurd (none command spelled))
 
-words_of : (words : List (List ℕ)) (before after : Moment) (status : ℕ) (ending : Ending) → status ≡ status_of ending → Causes words before after ending
+words_of : (words : List (List ℕ)) (before after : Moment) (status : ℕ) (ending : Ending) → status ≡ status_of ending
+    → Causes words before after ending
     → WordsClause words status
 words_of words before after status Words answer cause = (λ five. cause.0, λ none. answer)
 words_of words before after status Done answer cause = other_words words status cause.1.0 cause.1.1 (λ five. omega arith)
@@ -126,6 +145,7 @@ words_of words before after status Memory answer cause = other_words words statu
 words_of words before after status (Write name) answer cause = other_words words status cause.1.0 cause.1.1 (λ five. omega arith)
 words_of words before after status Output answer cause = other_words words status cause.1.0 cause.1.1 (λ five. omega arith)
 
-pub words_clause : (words : List (List ℕ)) (before after : Moment) (err now : Device (List ℕ)) (status : ℕ) → Ends words before after err now status
+pub words_clause : (words : List (List ℕ)) (before after : Moment) (err now : Device (List ℕ)) (status : ℕ)
+    → Ends words before after err now status
     → WordsClause words status
 words_clause words before after err now status ends = words_of words before after status ends.ending ends.answer ends.cause

@@ -15,7 +15,8 @@ use Rattle.exchange_cli.specs.declared.ending.Ending.TheVariants.{Done, Words, M
 
 -- a run that stops before the first store ends so
 pub stops_early : (words : List (List ℕ)) (before after : Device Held) (out : Device (List ℕ)) (command : Exchange) (ending : Ending)
-    → AreExchange words command → Keeps before after → StopsEarly before after command ending → Causes words (moment before out) (moment after out) ending
+    → AreExchange words command → Keeps before after → StopsEarly before after command ending → Causes words (moment before out)
+    (moment after out) ending
 stops_early words before after out command (Missing name) spelled keeps stops = ((command, spelled, stops), (keeps.same, refl))
 stops_early words before after out command (TooLong name) spelled keeps stops = ((command, spelled, stops), (keeps.same, refl))
 stops_early words before after out command NotBuilt spelled keeps stops = ((command, spelled, stops), (keeps.same, refl))
@@ -32,20 +33,23 @@ pub rises_since : (before middle after : ℕ) → before ≤ middle → middle �
 rises_since before middle after first second rose = grind arith
 
 -- what is read and solved, where the shelf tells what it holds
-pub solves : (words : List (List ℕ)) (content : Option Held) (faults : ℕ) (out : Device (List ℕ)) (command : Exchange) (inputs : Inputs) (files : List FileOut)
+pub solves : (words : List (List ℕ)) (content : Option Held) (faults : ℕ) (out : Device (List ℕ)) (command : Exchange)
+    (inputs : Inputs) (files : List FileOut)
     → AreExchange words command → IfSome content (λ held. Reads held command inputs) → AreSolvedFiles inputs command.target files
     → Solves words (moment (device content faults) out) files
 solves words None faults out command inputs files spelled reads solved = (command, spelled, tt)
 solves words (Some held) faults out command inputs files spelled reads solved = (command, spelled, (inputs, reads, solved))
 
 -- files that are delivered after the reading are delivered by the run
-pub finishes : (words : List (List ℕ)) (before middle after : Device Held) (out printed : Device (List ℕ)) (files : List FileOut) (ending : Ending)
+pub finishes : (words : List (List ℕ)) (before middle after : Device Held) (out printed : Device (List ℕ)) (files : List FileOut)
+    (ending : Ending)
     → Solves words (moment before out) files → Keeps before middle → middle.faults ≤ after.faults
     → Delivers (moment middle out) (moment after printed) files ending → Causes words (moment before out) (moment after printed) ending
 finishes words before middle after out printed files Done solved keeps later done = (files, solved, rw keeps.same at done)
 finishes words before middle after out printed files (Write name) solved keeps later done =
     (files, solved, ((rw keeps.same at done.0), done.1, rises_since before.faults middle.faults after.faults keeps.later later done.2))
-finishes words before middle after out printed files Output solved keeps later done = (files, solved, (rw keeps.same at done.0, done.1, done.2))
+finishes words before middle after out printed files Output solved keeps later done =
+    (files, solved, (rw keeps.same at done.0, done.1, done.2))
 finishes words before middle after out printed files Words solved keeps later done = absurd done
 finishes words before middle after out printed files (Missing name) solved keeps later done = absurd done
 finishes words before middle after out printed files (TooLong name) solved keeps later done = absurd done

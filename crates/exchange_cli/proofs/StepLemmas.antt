@@ -21,7 +21,8 @@ use Rattle.exchange_cli.specs.declared.ending.Ending.{Ending}
 use Rattle.exchange_cli.specs.declared.ending.Ending.TheVariants.{Done, Words, Missing, TooLong, NotBuilt, Table, Read, Write, Output, Memory}
 
 -- a fetch that the run comes to, and that fails, is where the run stops
-pub fetch_stops : (content : Option Held) (faults : ℕ) (after : Device Held) (command : Exchange) (name : List ℕ) (limit : ℕ) (ending : Ending)
+pub fetch_stops : (content : Option Held) (faults : ℕ) (after : Device Held) (command : Exchange) (name : List ℕ) (limit : ℕ)
+    (ending : Ending)
     → IfSome content (λ held. Comes held command name limit) → FailsToFetch (device content faults) after name limit ending
     → StopsEarly (device content faults) after command ending
 fetch_stops None faults after command name limit (Missing about) comes fails = tt
@@ -39,12 +40,14 @@ fetch_stops content faults after command name limit (Write about) comes fails = 
 fetch_stops content faults after command name limit Output comes fails = fails
 
 -- the run comes to fetch its mapping
-pub comes_to_mapping : (content : Option Held) (command : Exchange) → IfSome content (λ held. Comes held command command.mapping mapping_limit)
+pub comes_to_mapping : (content : Option Held) (command : Exchange)
+    → IfSome content (λ held. Comes held command command.mapping mapping_limit)
 comes_to_mapping None command = tt
 comes_to_mapping (Some held) command = inl (refl, refl)
 
 -- after its mapping the run comes to fetch the table of the first relation
-pub comes_to_table : (content : Option Held) (command : Exchange) (mapping : CopyMapping) (name : List ℕ) → name ≡ table_name command.source mapping.source.name
+pub comes_to_table : (content : Option Held) (command : Exchange) (mapping : CopyMapping) (name : List ℕ)
+    → name ≡ table_name command.source mapping.source.name
     → ReadsMappingIn content command (rules_of mapping) → IfSome content (λ held. Comes held command name tables_limit)
 comes_to_table None command mapping name is reads = tt
 comes_to_table (Some held) command mapping name is reads = inr (mapping.source, is, (rules_of mapping, reads, inl (refl, refl)))
@@ -68,7 +71,8 @@ each_is_wide width (fields ∷ records) (fact ∷ facts) each =
 pub facts_are_wide : (columns : List (List ℕ)) (bytes : List ℕ) (facts : SourceTable) → IsTable columns bytes facts
     → All (λ fact. length fact.row ≡ length columns) facts
 facts_are_wide columns bytes facts table =
-    All-from_recursion (λ (fact : StampedOf (List (List ℕ))). length fact.row ≡ length columns) facts (each_is_wide (length columns) table.records facts table.each)
+    All-from_recursion (λ (fact : StampedOf (List (List ℕ))). length fact.row ≡ length columns) facts (each_is_wide
+    (length columns) table.records facts table.each)
 
 -- a table with a fault is where the run stops
 pub table_stops : (content : Option Held) (command : Exchange) (mapping : CopyMapping) (name bytes : List ℕ) (fault : TableFault)

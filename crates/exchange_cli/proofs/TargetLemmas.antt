@@ -39,7 +39,8 @@ in_body m copy v inside =
     let place_inside = All-contains (λ place. place < length m.variables) m.body found.0 copy.body found.1 in
     let below : (n : ℕ) → n < length m.variables → All (λ place. place < length m.variables) (n ∷ []) =
     λ n h. All-cons (λ place. place < length m.variables) n [] h (All-nil (λ place. place < length m.variables)) in
-    let one = places_once (names_at m.variables m.body) m.variables (found.0 ∷ []) (v ∷ []) copy.first_uses (below found.0 place_inside) (below v inside)
+    let one = places_once (names_at m.variables m.body) m.variables (found.0 ∷ []) (v ∷ []) copy.first_uses
+    (below found.0 place_inside) (below v inside)
     (ap (λ (n : List ℕ). n ∷ []) found.2) in
     let same : found.0 ≡ v = ap (λ l. get_or l 0 0) one in
     subst (λ p. Contains m.body p) same found.1
@@ -65,8 +66,10 @@ pub copied_target : (m : CopyMapping) (facts rows : SourceTable) → IsCopyMappi
 copied_target m facts rows copy coalesced covers =
     let inputs : Inputs = record { rules = rules_of m; tables = facts ∷ [] } in
     record {
-      coalesced = All-cons (IsCoalesced stored_cmp) (as_terms rows) [] (as_terms-coalesced (slice_cmp nat_cmp) rows coalesced) (All-nil (IsCoalesced stored_cmp));
-      universal = λ t. copied_table_is_universal (name_of inputs) [] (rules_of m) m.body m.head (copying m copy) facts rows t (λ row. covers row t);
+      coalesced = All-cons (IsCoalesced stored_cmp) (as_terms rows) [] (as_terms-coalesced (slice_cmp nat_cmp) rows coalesced)
+          (All-nil (IsCoalesced stored_cmp));
+      universal =
+          λ t. copied_table_is_universal (name_of inputs) [] (rules_of m) m.body m.head (copying m copy) facts rows t (λ row. covers row t);
     }
 
 -- facts that may be copied are as wide as the body
@@ -78,11 +81,16 @@ pub copy_safe : (m : CopyMapping) → IsCopyMapping m → All (λ v. Contains m.
 copy_safe m copy = λ k d inside. in_body m copy (get_or m.head k d) (copy.head k d inside)
 
 -- the files of a solved exchange
-pub solved_files_are : (m : CopyMapping) (facts copied rows : SourceTable) (target bytes : List ℕ) (files : List FileOut) → AreCopyable m facts
+pub solved_files_are : (m : CopyMapping) (facts copied rows : SourceTable) (target bytes : List ℕ) (files : List FileOut)
+    → AreCopyable m facts
     → ((row : List (List ℕ)) (t : ℤ) → Covers copied row t ↔ CopiedRow m.body m.head facts row t)
     → IsCoalesced (slice_cmp (slice_cmp nat_cmp)) rows → ((row : List (List ℕ)) (t : ℤ) → Covers rows row t ↔ Covers copied row t)
     → IsStored bytes m.target.columns (as_terms rows)
-    → files ≡ record { name = table_name target m.target.name; bytes = bytes } ∷ record { name = verdict_name target; bytes = solved } ∷ []
+    → files ≡ record {
+      name =
+          table_name target m.target.name;
+      bytes = bytes;
+    } ∷ record { name = verdict_name target; bytes = solved } ∷ []
     → AreSolvedFiles (record { rules = rules_of m; tables = facts ∷ [] }) target files
 solved_files_are m facts copied rows target bytes files copyable exact coalesced covers stored are =
     let table : FileOut = record { name = table_name target m.target.name; bytes = bytes } in

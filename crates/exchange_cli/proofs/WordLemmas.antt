@@ -27,11 +27,13 @@ text_has_words (blank b text) = text_has_words text
 text_has_words (token {t = t} {rest = rest} starts text) = (whole_has_word t rest starts.whole, text_has_words text)
 
 -- what holds of all elements holds in each part
-onto_first-all : {X : Type 0} (P : X → Type 0) (x : X) (parts : List (List X)) → P x → AllByRecursion (AllByRecursion P) parts → AllByRecursion (AllByRecursion P) (onto_first x parts)
+onto_first-all : {X : Type 0} (P : X → Type 0) (x : X) (parts : List (List X)) → P x → AllByRecursion (AllByRecursion P) parts
+    → AllByRecursion (AllByRecursion P) (onto_first x parts)
 onto_first-all P x [] p all = ((p, tt), tt)
 onto_first-all P x (part ∷ parts) p all = ((p, all.0), all.1)
 
-slice_split-all : {X : Type 0} (P : X → Type 0) (q : X → Bool) (xs : List X) → AllByRecursion P xs → AllByRecursion (AllByRecursion P) (slice_split q xs)
+slice_split-all : {X : Type 0} (P : X → Type 0) (q : X → Bool) (xs : List X) → AllByRecursion P xs
+    → AllByRecursion (AllByRecursion P) (slice_split q xs)
 slice_split-all P q [] all = (tt, tt)
 slice_split-all P q (x ∷ xs) all =
     let rest = slice_split-all P q xs all.1 in
@@ -61,7 +63,8 @@ word_keeps (a ∷ []) word = refl
 word_keeps (a ∷ b ∷ []) word = refl
 word_keeps (a ∷ b ∷ c ∷ rest) word = rw (letter_is_no_mark a b c word.0) refl
 
-columns_keep : (columns : List (List ℕ)) (word name : List ℕ) → AllByRecursion HasWord (declaration_tokens word (record { name = name; columns = columns })) → HasNoByteOrderMark columns
+columns_keep : (columns : List (List ℕ)) (word name : List ℕ)
+    → AllByRecursion HasWord (declaration_tokens word (record { name = name; columns = columns })) → HasNoByteOrderMark columns
 columns_keep [] word name all = tt
 columns_keep (column ∷ columns) word name all = word_keeps column all.1.1.1.0
 

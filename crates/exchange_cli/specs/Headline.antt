@@ -12,7 +12,8 @@ use Rattle.exchange_cli.specs.declared.file.FileOut.{FileOut}
 
 -- the premises: the shelf tells what it holds, the command reads all that it needs there, and neither memory nor the
 -- shelf nor the output failed in this call
-pub record IsUnhindered (words : List (List ℕ)) (before after : Moment) (status : ℕ) (command : Exchange) (held : Held) (inputs : Inputs) : Type 0 where
+pub record IsUnhindered (words : List (List ℕ)) (before after : Moment) (status : ℕ) (command : Exchange) (held : Held)
+    (inputs : Inputs) : Type 0 where
   pub spelled : AreExchange words command
   pub told : before.shelf.content ≡ Some held
   pub reads : Reads held command inputs

@@ -8,7 +8,8 @@ use Rattle.exchange_cli.specs.declared.mapping.CopyMapping.{CopyMapping}
 
 -- the one dependency of a mapping that copies
 abbrev pub tgd_of : CopyMapping → Tgd
-tgd_of m = record { name = m.name; vars = m.variables; body_vars = length m.variables; body = atom_of m.body ∷ []; head = atom_of m.head ∷ [] }
+tgd_of m =
+    record { name = m.name; vars = m.variables; body_vars = length m.variables; body = atom_of m.body ∷ []; head = atom_of m.head ∷ [] }
 
 -- the mapping as relations and rules
 abbrev pub rules_of : CopyMapping → RuleSet

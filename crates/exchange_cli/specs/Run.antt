@@ -31,7 +31,8 @@ moment shelf out = record { shelf = shelf; out = out }
 
 -- the same, of a shelf and an output whose types tell what they hold and count
 abbrev pub seen : {S O : Type 0} → (S → Option Held) → (S → ℕ) → (O → Option (List ℕ)) → (O → ℕ) → S → O → Moment
-seen holds shelf_faults text out_faults shelf out = moment (device (holds shelf) (shelf_faults shelf)) (device (text out) (out_faults out))
+seen holds shelf_faults text out_faults shelf out =
+    moment (device (holds shelf) (shelf_faults shelf)) (device (text out) (out_faults out))
 
 -- nothing was stored or printed
 abbrev pub Untouched : Moment → Moment → Type 0
@@ -58,12 +59,14 @@ Delivers before after files Done = Stores before.shelf after.shelf files × Appe
 Delivers before after files (Write name) =
     StoresUpTo before.shelf after.shelf files name × (after.out ≡ before.out) × Rises before.shelf.faults after.shelf.faults
 Delivers before after files Output =
-    Stores before.shelf after.shelf files × AppendsPrefix before.out.content after.out.content solved × Rises before.out.faults after.out.faults
+    Stores before.shelf after.shelf files × AppendsPrefix before.out.content after.out.content solved
+    × Rises before.out.faults after.out.faults
 Delivers before after files other = ⊥
 
 -- the words are a command's, whose first failure is this one
 abbrev pub Refuses : List (List ℕ) → Moment → Ending → Type 0
-Refuses words before ending = (command : Exchange) × AreExchange words command × IfSome before.shelf.content (λ held. FailsFirst held command ending)
+Refuses words before ending =
+    (command : Exchange) × AreExchange words command × IfSome before.shelf.content (λ held. FailsFirst held command ending)
 
 -- the words are a command's, which reads all that it needs, and these are its files
 abbrev pub Solves : List (List ℕ) → Moment → List FileOut → Type 0

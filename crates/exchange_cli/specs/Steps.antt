@@ -27,8 +27,10 @@ pub record Keeps (before after : Device Held) : Type 0 where
 
 -- a fetch of this name ends so: what the shelf holds shows why, or its count of faults rose
 abbrev pub FailsToFetch : Device Held → Device Held → List ℕ → ℕ → Ending → Type 0
-FailsToFetch before after name limit (Missing about) = (about ≡ name) × IfSome before.content (λ held. fetched_of (get held name) limit ≡ fetched.Missing)
-FailsToFetch before after name limit (TooLong about) = (about ≡ name) × IfSome before.content (λ held. fetched_of (get held name) limit ≡ fetched.TooLong)
+FailsToFetch before after name limit (Missing about) =
+    (about ≡ name) × IfSome before.content (λ held. fetched_of (get held name) limit ≡ fetched.Missing)
+FailsToFetch before after name limit (TooLong about) =
+    (about ≡ name) × IfSome before.content (λ held. fetched_of (get held name) limit ≡ fetched.TooLong)
 FailsToFetch before after name limit (Read about) = (about ≡ name) × Rises before.faults after.faults
 FailsToFetch before after name limit Memory = ⊤
 FailsToFetch before after name limit other = ⊥
@@ -39,7 +41,8 @@ StopsEarly before after command (Missing name) = IfSome before.content (λ held.
 StopsEarly before after command (TooLong name) = IfSome before.content (λ held. FailsFirst held command (TooLong name))
 StopsEarly before after command NotBuilt = IfSome before.content (λ held. FailsFirst held command NotBuilt)
 StopsEarly before after command (Table name) = IfSome before.content (λ held. FailsFirst held command (Table name))
-StopsEarly before after command (Read name) = IfSome before.content (λ held. FailsFirst held command (Read name)) × Rises before.faults after.faults
+StopsEarly before after command (Read name) =
+    IfSome before.content (λ held. FailsFirst held command (Read name)) × Rises before.faults after.faults
 StopsEarly before after command Memory = ⊤
 StopsEarly before after command other = ⊥
 
@@ -47,7 +50,8 @@ StopsEarly before after command other = ⊥
 abbrev pub StopsAtFile : Device Held → Device Held → List FileOut → ℕ → Type 0
 StopsAtFile before after files at =
     (at < length files) × (file : FileOut) × (file ≡ slice_index_or files at file)
-    × OthersStay (option_map (λ held. with_files held (take at files)) before.content) after.content file.name × Rises before.faults after.faults
+    × OthersStay (option_map (λ held. with_files held (take at files)) before.content) after.content file.name
+    × Rises before.faults after.faults
 
 -- where the shelf tells what it holds, the mapping there is this one
 abbrev pub ReadsMappingIn : Option Held → Exchange → RuleSet → Type 0

@@ -62,11 +62,15 @@ Comes held command name limit =
 
 -- the first failure in the order of work
 abbrev pub FailsFirst : Held → Exchange → Ending → Type 0
-FailsFirst held command (Missing name) = (limit : ℕ) × Comes held command name limit × (fetched_of (get held name) limit ≡ fetched.Missing)
-FailsFirst held command (TooLong name) = (limit : ℕ) × Comes held command name limit × (fetched_of (get held name) limit ≡ fetched.TooLong)
-FailsFirst held command NotBuilt = (bytes : List ℕ) × Gives held command.mapping mapping_limit bytes × ((rules : RuleSet) → ¬ (IsBuilt bytes rules))
+FailsFirst held command (Missing name) =
+    (limit : ℕ) × Comes held command name limit × (fetched_of (get held name) limit ≡ fetched.Missing)
+FailsFirst held command (TooLong name) =
+    (limit : ℕ) × Comes held command name limit × (fetched_of (get held name) limit ≡ fetched.TooLong)
+FailsFirst held command NotBuilt =
+    (bytes : List ℕ) × Gives held command.mapping mapping_limit bytes × ((rules : RuleSet) → ¬ (IsBuilt bytes rules))
 FailsFirst held command (Table name) =
-    (relation : Relation) × (limit : ℕ) × (bytes : List ℕ) × (name ≡ table_name command.source relation.name) × ComesToRelation held command relation limit
+    (relation : Relation) × (limit : ℕ) × (bytes : List ℕ) × (name ≡ table_name command.source relation.name)
+    × ComesToRelation held command relation limit
     × Gives held name limit bytes × TableFaults relation.columns bytes
 FailsFirst held command (Read name) = (limit : ℕ) × Comes held command name limit
 FailsFirst held command other = ⊥

@@ -15,12 +15,14 @@ returns-in_err-bytes-clause-stops g c =
     let held = g.S.Shelf.holds c.args.shelf.now in
     let named : c.in_ok-name.name ≡ command.mapping = c.in_ok-name.ensures in
     let comes : IfSome held (λ h. Comes h command c.in_ok-name.name mapping_limit) = rw named (comes_to_mapping held command) in
-    rw (p.1, p.2) (fetch_stops held (g.S.Shelf.faults c.args.shelf.now) (device (g.S.Shelf.holds c.fetch.new.shelf) (g.S.Shelf.faults c.fetch.new.shelf))
+    rw (p.1, p.2) (fetch_stops held (g.S.Shelf.faults c.args.shelf.now) (device (g.S.Shelf.holds c.fetch.new.shelf)
+    (g.S.Shelf.faults c.fetch.new.shelf))
     command c.in_ok-name.name mapping_limit c.in_err-bytes.field-0.0 comes c.in_err-bytes.ensures.fails)
 
 pub returns-clause-stops : goal.returns-clause-stops
 returns-clause-stops g c =
-    not_built_stops (g.S.Shelf.holds c.args.shelf.now) (command_of c.args.command.now) c.in_ok-name.name c.in_ok-bytes.bytes c.in_ok-name.ensures c.in_ok-bytes.ensures.gives
+    not_built_stops (g.S.Shelf.holds c.args.shelf.now) (command_of c.args.command.now) c.in_ok-name.name c.in_ok-bytes.bytes
+    c.in_ok-name.ensures c.in_ok-bytes.ensures.gives
     (rw c.as_slice.ensures at (rw c.in-None.is at c.in_ok-found.ensures.none))
 
 pub returns-in-Some-clause-sound : goal.returns-in-Some-clause-sound

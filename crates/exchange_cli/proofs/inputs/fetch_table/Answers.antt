@@ -11,14 +11,17 @@ returns-in_err-bytes-clause-stops g c =
     let p = err_from_is_err_and c.from_residual-in_err-bytes.result c.from_residual-in_err-bytes.ensures.1 in
     let command = command_of c.args.command.now in
     let held = g.S.Shelf.holds c.args.shelf.now in
-    rw (p.1, p.2) (λ reads. fetch_stops held (g.S.Shelf.faults c.args.shelf.now) (device (g.S.Shelf.holds c.fetch.new.shelf) (g.S.Shelf.faults c.fetch.new.shelf))
-    command c.in_ok-name.name tables_limit c.in_err-bytes.field-0.0 (comes_to_table held command c.args.mapping.now c.in_ok-name.name c.in_ok-name.ensures reads) c.in_err-bytes.ensures.fails)
+    rw (p.1, p.2) (λ reads. fetch_stops held (g.S.Shelf.faults c.args.shelf.now) (device (g.S.Shelf.holds c.fetch.new.shelf)
+    (g.S.Shelf.faults c.fetch.new.shelf))
+    command c.in_ok-name.name tables_limit c.in_err-bytes.field-0.0
+    (comes_to_table held command c.args.mapping.now c.in_ok-name.name c.in_ok-name.ensures reads) c.in_err-bytes.ensures.fails)
 
 pub returns-in-Err-Fault-clause-stops : goal.returns-in-Err-Fault-clause-stops
 returns-in-Err-Fault-clause-stops g c =
     let command = command_of c.args.command.now in
     let held = g.S.Shelf.holds c.args.shelf.now in
-    λ reads. table_stops held command c.args.mapping.now c.in_ok-name.name c.in_ok-bytes.bytes c.in-Err-Fault.field-0-0 c.in_ok-name.ensures c.in_ok-bytes.ensures.gives
+    λ reads. table_stops held command c.args.mapping.now c.in_ok-name.name c.in_ok-bytes.bytes c.in-Err-Fault.field-0-0
+    c.in_ok-name.ensures c.in_ok-bytes.ensures.gives
     (rw (c.as_slice.ensures, c.in-Err-Fault.field-0-is) at c.in-Err-Fault.ensures.fault) reads
 
 pub returns-in-Ok-clause-wide : goal.returns-in-Ok-clause-wide

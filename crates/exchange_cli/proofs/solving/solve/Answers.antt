@@ -17,9 +17,11 @@ returns c =
     let target = c.args.target.now in
     let table = c.in_ok-table.table in
     IfOk-weaker c.solved_files.result
-    (λ (files : List FileOut). files ≡ record { name = table_name target m.target.name; bytes = table } ∷ record { name = verdict_name target; bytes = solved } ∷ [])
+    (λ (files : List FileOut). files ≡ record { name = table_name target m.target.name; bytes = table }
+    ∷ record { name = verdict_name target; bytes = solved } ∷ [])
     (AreSolvedFiles (read_of c.args.inputs) target)
     (λ files are. solved_files_are m c.args.inputs.facts c.in_ok-copied.copied c.coalesce-rows.result target table files c.requires
-    (rw (c.as_slice.ensures, c.as_slice-2.ensures) at c.in_ok-copied.ensures.covers) c.coalesce-rows.ensures.coalesced c.coalesce-rows.ensures.covers
+    (rw (c.as_slice.ensures, c.as_slice-2.ensures) at c.in_ok-copied.ensures.covers) c.coalesce-rows.ensures.coalesced
+    c.coalesce-rows.ensures.covers
     (c.in_ok-table.ensures.stored c.requires.sound.no_mark) are)
     c.solved_files.ensures

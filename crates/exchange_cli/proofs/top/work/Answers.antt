@@ -9,7 +9,8 @@ use Rattle.exchange_cli.proofs.top.work.Goals as goal
 pub returns-in-Err-clause-causes : goal.returns-in-Err-clause-causes
 returns-in-Err-clause-causes g c =
     stops_early (map string_bytes c.args.words.now) (device (g.S.Shelf.holds c.args.shelf.now) (g.S.Shelf.faults c.args.shelf.now))
-    (device (g.S.Shelf.holds c.read_inputs.new.shelf) (g.S.Shelf.faults c.read_inputs.new.shelf)) (device (g.O.Sink.text c.args.out.now) (g.O.Sink.faults c.args.out.now))
+    (device (g.S.Shelf.holds c.read_inputs.new.shelf) (g.S.Shelf.faults c.read_inputs.new.shelf)) (device
+    (g.O.Sink.text c.args.out.now) (g.O.Sink.faults c.args.out.now))
     (command_of c.in-Some.command) c.in-Err.ending c.in-Some.ensures.spelled c.read_inputs.ensures.keeps c.in-Err.ensures.stops
 
 pub returns-in-Ok-solve-clause-causes : goal.returns-in-Ok-solve-clause-causes
@@ -21,9 +22,11 @@ returns-in-Ok-solve-clause-causes g c =
     let after = device (g.S.Shelf.holds c.deliver.new.shelf) (g.S.Shelf.faults c.deliver.new.shelf) in
     let out = device (g.O.Sink.text c.args.out.now) (g.O.Sink.faults c.args.out.now) in
     let printed = device (g.O.Sink.text c.deliver.new.out) (g.O.Sink.faults c.deliver.new.out) in
-    let solved = solves words held faults out (command_of c.in-Some.command) (read_of c.in-Ok.inputs) c.in-Ok-solve.files c.in-Some.ensures.spelled
+    let solved = solves words held faults out (command_of c.in-Some.command)
+    (read_of c.in-Ok.inputs) c.in-Ok-solve.files c.in-Some.ensures.spelled
     c.in-Ok.ensures.reads c.in-Ok-solve.ensures in
-    finishes words (device held faults) middle after out printed c.in-Ok-solve.files c.deliver.result solved c.read_inputs.ensures.keeps c.deliver.ensures.later c.deliver.ensures.delivers
+    finishes words (device held faults) middle after out printed c.in-Ok-solve.files c.deliver.result solved
+    c.read_inputs.ensures.keeps c.deliver.ensures.later c.deliver.ensures.delivers
 
 pub returns-in-Err-solve-clause-causes : goal.returns-in-Err-solve-clause-causes
 returns-in-Err-solve-clause-causes g c = (command_of c.in-Some.command, c.in-Some.ensures.spelled, (c.read_inputs.ensures.keeps.same, refl))
