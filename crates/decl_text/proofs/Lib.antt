@@ -4,3 +4,5 @@ pub mod GapLemmas
 pub mod ScanLemmas
 pub mod OnceLemmas
 pub mod NextLemmas
+pub mod TestLemmas
+pub mod DeclarationLemmas

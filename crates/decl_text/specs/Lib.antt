@@ -1,4 +1,8 @@
 pub mod Quotes
 pub mod Tokens
 pub mod Pieces
+pub mod Tests
 pub mod TokenList
+pub mod Parts
+pub mod Declaration
+pub mod Columns

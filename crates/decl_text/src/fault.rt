@@ -65,3 +65,14 @@ impl From<Memory> for ReadError {
         ReadError::Memory
     }
 }
+
+impl From<MappingFault> for ReadError {
+    ghost use Rattle.std.specs.Prelude.{◌≡◌};
+    ghost use Rattle.decl_text.specs.declared.fault.ReadError.TheVariants as error;
+
+    ghost from_gives = { λ f e. e ≡ error.Fault f };
+
+    fn from(fault: MappingFault) -> ReadError {
+        ReadError::Fault(fault)
+    }
+}

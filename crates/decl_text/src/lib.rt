@@ -3,6 +3,7 @@
 
 mod fault;
 pub mod laws;
+mod parts;
 mod quotes;
 mod scan;
 #[cfg(test)]
@@ -10,6 +11,7 @@ mod tests;
 mod token;
 
 pub use fault::{Code, MappingFault, ReadError};
+pub use parts::{Name, fault_at, is_word, read_name, read_sign, read_token};
 pub use quotes::{print_quoted, quoted};
 pub use scan::next_token;
 pub use token::{Kind, Token};

@@ -1,0 +1,6 @@
+//! Tgds, egds and queries as text, both ways: each line of them, or its first fault.
+#![tactic(auto)]
+
+mod rule;
+
+pub use rule::Rule;
