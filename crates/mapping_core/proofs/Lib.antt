@@ -1,0 +1,5 @@
+pub mod QuotedLemmas
+pub mod PlacedLemmas
+pub mod LineLemmas
+pub mod PoolLemmas
+pub mod ReadsLemmas

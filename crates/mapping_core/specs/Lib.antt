@@ -1,0 +1,4 @@
+pub mod Mapping
+pub mod Reading
+pub mod Steps
+pub mod Pending

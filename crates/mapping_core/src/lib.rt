@@ -1,0 +1,9 @@
+//! A whole mapping as text, both ways: its rules with the texts of their constants, or the first fault of the text.
+#![tactic(auto)]
+
+mod mapping;
+mod pending;
+mod reading;
+
+pub use mapping::Mapping;
+pub use reading::read_mapping;
