@@ -1,6 +1,7 @@
 //! The tokens of a mapping text, each with its place, or the first fault; and texts in quotes, both ways.
 #![tactic(auto)]
 
+mod declaration;
 mod fault;
 pub mod laws;
 mod parts;
@@ -10,6 +11,7 @@ mod scan;
 mod tests;
 mod token;
 
+pub use declaration::read_declaration;
 pub use fault::{Code, MappingFault, ReadError};
 pub use parts::{Name, fault_at, is_word, read_name, read_sign, read_token};
 pub use quotes::{print_quoted, quoted};
