@@ -4,5 +4,7 @@ pub mod GapLemmas
 pub mod ScanLemmas
 pub mod OnceLemmas
 pub mod NextLemmas
+pub mod OneOutcome
+pub mod DecidedLemmas
 pub mod TestLemmas
 pub mod DeclarationLemmas

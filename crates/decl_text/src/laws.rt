@@ -7,6 +7,11 @@ ghost use Rattle.decl_text.specs.declared.fault.MappingFault.{MappingFault as Fa
 ghost use Rattle.decl_text.specs.Quotes.{IsQuoted};
 ghost use Rattle.decl_text.specs.Tokens.{IsNextToken, IsNextFault};
 ghost use Rattle.decl_text.specs.TokenList.{AreTokens};
+ghost use Rattle.decl_text.specs.Tests.{IsDecided};
+ghost use Rattle.decl_text.specs.Declaration.{declaration_tests, IsDeclaration, FailsDeclaration};
+ghost use Rattle.rule_core.specs.declared.rules.Place.{Place as PlaceValue};
+ghost use Rattle.rule_core.specs.declared.rules.Relation.{Relation as RelationValue};
+ghost use Rattle.rule_core.specs.Mapping.{RuleSet};
 
 /// From a place on, no two tokens stand next, no two faults, and not a token and a fault: so what
 /// `next_token` answers is all that the definitions allow.
@@ -40,4 +45,19 @@ pub fn quoted_texts_are_read_back()
         → IsQuoted quoted text → IsQuoted quoted other → text ≡ other }
     ensures printed { (quoted other text : List ℕ)
         → IsQuoted quoted text → IsQuoted other text → quoted ≡ other }
+{}
+
+/// From a place on, at most one declaration stands, and it ends at one place; a line has one first
+/// fault; and where a declaration stands, only the token behind it can be at fault.
+pub fn a_declaration_is_one()
+    ensures decided { (rules : RuleSet) → IsDecided (declaration_tests rules) }
+    ensures one { (bytes : List ℕ) (rules : RuleSet) (from : ℕ) (place other : PlaceValue)
+        → (a b : RelationValue) (to end : ℕ) → IsDeclaration bytes rules from place a to
+        → IsDeclaration bytes rules from other b end → (place ≡ other) × (a ≡ b) × (to ≡ end) }
+    ensures fault { (bytes : List ℕ) (rules : RuleSet) (from : ℕ) (a b : FaultValue)
+        → FailsDeclaration bytes rules from a → FailsDeclaration bytes rules from b → a ≡ b }
+    ensures behind { (bytes : List ℕ) (rules : RuleSet) (from : ℕ) (place : PlaceValue)
+        → (relation : RelationValue) (to : ℕ) (fault : FaultValue)
+        → IsDeclaration bytes rules from place relation to → FailsDeclaration bytes rules from fault
+        → IsNextFault bytes to fault }
 {}
