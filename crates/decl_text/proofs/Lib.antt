@@ -8,3 +8,5 @@ pub mod OneOutcome
 pub mod DecidedLemmas
 pub mod TestLemmas
 pub mod DeclarationLemmas
+pub mod PassLemmas
+pub mod FitLemmas
