@@ -6,3 +6,5 @@ pub mod OnceLemmas
 pub mod NextLemmas
 pub mod TestLemmas
 pub mod DeclarationLemmas
+pub mod WrittenLemmas
+pub mod PrintedLemmas
