@@ -5,3 +5,4 @@ pub mod Tests
 pub mod TokenList
 pub mod Parts
 pub mod Declaration
+pub mod Canonical

@@ -9,6 +9,7 @@ ghost use Rattle.rule_core.specs.Validity.{IsValid};
 ghost use Rattle.decl_text.specs.Declaration.{begins, wants_name, wants_parenthesis, wants_column, wants_comma, wants_line_end, declared, declaration_tests, IsNewName, HasPlace, IsDeclaration, FailsDeclaration};
 ghost use Rattle.decl_text.specs.Tests.{Leads, Fails, IfFault};
 
+use crate::laws::what_is_declared_fits;
 use crate::parts::{Name, fault_at, is_word, read_name, read_sign, read_token};
 use crate::{Code, Kind, ReadError};
 use rule_core::{Place, Relation, Rules};
@@ -32,10 +33,12 @@ pub fn read_declaration(
     requires { from ≤ length bytes.now }
     ensures declares { IfOk result
         (λ line. IsDeclaration bytes.now rules.now from line.0 line.1 line.2) }
-    // FITS
+    ensures fits { IfOk result (λ line. IsValid (with_relation rules.now line.0 line.1)) }
     ensures within { IfOk result (λ line. line.2 ≤ length bytes.now) }
     ensures fault { IfFault result (FailsDeclaration bytes.now rules.now from) }
 {
+    rules.are_valid();
+    what_is_declared_fits();
     let (place, after) = read_side(bytes, from)?;
     let name = read_relation_name(alloc, bytes, after, rules)?;
     let after = read_sign(bytes, name.token.end, Kind::LeftParen, Code::X5)?;

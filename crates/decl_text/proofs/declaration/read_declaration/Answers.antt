@@ -81,3 +81,9 @@ returns-clause-declares c =
     (c.in_ok-place.ensures.side set) (c.in_ok-name.ensures.name place)) c.in_ok-after.ensures.sign)
     (c.in_ok-columns.ensures.columns set place name.text))
     (c.in_ok-end.ensures.end set place (record { name = name.text; columns = columns }))
+
+pub returns-clause-fits : goal.returns-clause-fits
+returns-clause-fits c =
+    c.what_is_declared_fits.ensures c.args.bytes.now c.args.rules.now c.args.from c.in_ok-place.place
+    (record { name = c.in_ok-name.name.text; columns = c.in_ok-columns.columns }) c.in_ok-end.end c.are_valid.ensures
+    (returns-clause-declares c)
