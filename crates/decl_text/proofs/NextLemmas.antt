@@ -26,7 +26,7 @@ token_same a b kind start end =
     let make : Kind → ℕ → ℕ → Token = λ k s e. record { kind = k; start = s; end = e } in
     ap (λ k. make k a.start a.end) kind ∙ ap (λ s. make b.kind s a.end) start ∙ ap (λ e. make b.kind b.start e) end
 
-fault_same : (a b : MappingFault) → a.code ≡ b.code → a.place ≡ b.place → a ≡ b
+pub fault_same : (a b : MappingFault) → a.code ≡ b.code → a.place ≡ b.place → a ≡ b
 fault_same a b code place =
     let make : Code → ℕ → MappingFault = λ c p. record { code = c; place = p } in
     ap (λ c. make c a.place) code ∙ ap (λ p. make b.code p) place

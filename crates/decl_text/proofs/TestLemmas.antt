@@ -1,5 +1,5 @@
 -- Steps of a line's reading, put together.
-use Rattle.std.proofs.Common.{◌≡◌, ◌≢◌, ◌⊎◌, inl, inr, ℕ, ◌+◌, ◌-◌, ◌≤◌, ◌<◌, true, IsTrue, IsUtf8, All, List, [], ◌∷◌, ◌++◌, length, take, drop, codes, refl, sym, ap, ◌∙◌, subst, arith}
+use Rattle.std.proofs.Common.{◌≡◌, ◌≢◌, inl, inr, ℕ, ◌+◌, ◌-◌, ◌≤◌, ◌<◌, true, IsTrue, IsUtf8, List, [], ◌∷◌, ◌++◌, length, take, drop, refl, sym, ap, ◌∙◌, subst, arith}
 use Rattle.std.proofs.lemmas.List.{length-append, length-drop}
 use Rattle.std.proofs.lemmas.List.Elements.{All-cons, All-weaker}
 use Rattle.std.proofs.lemmas.Bool.Decides.{nat_tests}
@@ -12,8 +12,8 @@ use Rattle.decl_text.specs.declared.fault.Code.{Code}
 use Rattle.decl_text.specs.declared.fault.MappingFault.{MappingFault}
 use Rattle.decl_text.specs.Quotes.{IsQuoted}
 use Rattle.decl_text.specs.Tokens.{is_letter, is_name_byte, IsWord, IsSpelled, IsNextToken, IsNextFault}
-use Rattle.decl_text.specs.Tests.{Lexeme, IsTextOf, Says, Outcome, goes, stops, Comes, Pass, Leads, FailsNext, Fails}
-use Rattle.decl_text.specs.Parts.{StandsNext, FailsAt, IsOther}
+use Rattle.decl_text.specs.Tests.{Lexeme, IsTextOf, Outcome, goes, stops, Pass, Leads, Fails}
+use Rattle.decl_text.specs.Parts.{StandsNext, FailsAt}
 use Rattle.decl_text.proofs.ScanLemmas.{token_bytes}
 
 module _ {P : Type 0} (tests : P → Lexeme → Outcome P → Type 0) (bytes : List ℕ) where

@@ -5,6 +5,7 @@ mod declaration;
 mod fault;
 pub mod laws;
 mod parts;
+mod printing;
 mod quotes;
 mod scan;
 #[cfg(test)]
@@ -14,6 +15,7 @@ mod token;
 pub use declaration::read_declaration;
 pub use fault::{Code, MappingFault, ReadError};
 pub use parts::{Name, fault_at, is_word, read_name, read_sign, read_token};
+pub use printing::{join, print_declaration};
 pub use quotes::{print_quoted, quoted};
 pub use scan::next_token;
 pub use token::{Kind, Token};

@@ -72,12 +72,12 @@ module _ (n : ℕ) (xs : List ℕ) (h : AreNumbered n xs) where
 pub too_high : (xs ys : List ℕ) (u c : ℕ) → c ≤ u → AreNumbered c (xs ++ u ∷ ys) → ⊥
 too_high xs ys u c le all = absurd (omega (arith, le, (all.same u).0 (length xs, simp length-append (omega arith), get_or-append_seam xs u ys u)))
 
-variables_in-append : (xs ys : List Arg) → variables_in (xs ++ ys) ≡ variables_in xs ++ variables_in ys
+pub variables_in-append : (xs ys : List Arg) → variables_in (xs ++ ys) ≡ variables_in xs ++ variables_in ys
 variables_in-append [] ys = refl
 variables_in-append (Var v ∷ xs) ys = ap (λ l. v ∷ l) (variables_in-append xs ys)
 variables_in-append (Const c ∷ xs) ys = variables_in-append xs ys
 
-occurrences-append : (xs ys : List Atom) → occurrences (xs ++ ys) ≡ occurrences xs ++ occurrences ys
+pub occurrences-append : (xs ys : List Atom) → occurrences (xs ++ ys) ≡ occurrences xs ++ occurrences ys
 occurrences-append xs ys = flat_map-append (λ (atom : Atom). variables_in atom.args) xs ys
 
 -- what is read so far, with one more argument or one more atom
