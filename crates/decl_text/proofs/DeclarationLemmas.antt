@@ -7,16 +7,16 @@ use Rattle.rule_core.specs.declared.rules.Place.TheVariants.{Source, Target}
 use Rattle.rule_core.specs.declared.rules.Relation.{Relation}
 use Rattle.rule_core.specs.Mapping.{RuleSet}
 use Rattle.rule_core.specs.Adding.{IsNamedAt}
-use Rattle.decl_text.specs.declared.token.Kind.TheVariants.{Name, LeftParen, RightParen, Comma}
+use Rattle.decl_text.specs.declared.token.Kind.TheVariants.{Name, LeftParen, RightParen, Comma, Finish}
 use Rattle.decl_text.specs.declared.token.Token.{Token}
 use Rattle.decl_text.specs.declared.fault.Code.{Code}
 use Rattle.decl_text.specs.declared.fault.Code.TheVariants.{X5, U5, U6}
 use Rattle.decl_text.specs.declared.fault.MappingFault.{MappingFault}
 use Rattle.decl_text.specs.declared.fault.ReadError.{ReadError}
 use Rattle.decl_text.specs.declared.fault.ReadError.TheVariants as errors
-use Rattle.decl_text.specs.Tests.{Lexeme, Outcome, stops, Goes, Test, Leads, Fails, IfFault}
+use Rattle.decl_text.specs.Tests.{Lexeme, Outcome, stops, Goes, Test, IsFinal, Leads, Fails, IfFault, goes}
 use Rattle.decl_text.specs.Parts.{StandsNext, IsNoName, IsOther}
-use Rattle.decl_text.specs.Declaration.{Named, IsKeyword, EndsLine, IsNewName, HasPlace, with_column, begins, wants_name, wants_parenthesis, wants_column, wants_comma, wants_line_end, declared, declaration_tests}
+use Rattle.decl_text.specs.Declaration.{Named, IsKeyword, EndsLine, IsNewName, HasPlace, with_column, DeclarationPosition, begins, wants_name, wants_parenthesis, wants_column, wants_comma, wants_line_end, declared, declaration_tests}
 use Rattle.decl_text.proofs.TestLemmas.{Leads-one, Leads-join, Fails-token}
 
 -- a fault that is handed on
@@ -60,6 +60,26 @@ pub found_is_not_new : (set : RuleSet) (name : List ℕ) (place : Place) (number
     → ¬ (IsNewName set name)
 found_is_not_new set name Source number found new = name_taken set.sources name number found new.0
 found_is_not_new set name Target number found new = name_taken set.targets name number found new.1
+
+-- the line isn't over
+abbrev pub IsOpen : DeclarationPosition → Type 0
+IsOpen (declared place relation) = ⊥
+IsOpen other = Unit {0}
+
+-- the end of a text
+abbrev at_end : Lexeme
+at_end = record { kind = Finish; text = [] }
+
+-- where the line isn't over a token is wanted
+pub declaration_wants : (set : RuleSet) (position : DeclarationPosition) → IsOpen position
+    → ¬ (IsFinal (declaration_tests set) position)
+declaration_wants set begins open_ final = final at_end (stops X5) (inr ((λ e. absurd cc), inr ((λ e. absurd cc), refl)))
+declaration_wants set (wants_name place) open_ final = final at_end (stops X5) (inr ((λ e. cc), refl))
+declaration_wants set (wants_parenthesis place name) open_ final = final at_end (stops X5) (inr ((λ e. cc), refl))
+declaration_wants set (wants_column place relation) open_ final = final at_end (stops X5) (inr ((λ e. cc), refl))
+declaration_wants set (wants_comma place relation) open_ final = final at_end (stops X5) (inr ((λ e. cc), inr ((λ e. cc), refl)))
+declaration_wants set (wants_line_end place relation) open_ final = final at_end (goes (declared place relation)) (inl (inr refl, refl))
+declaration_wants set (declared place relation) open_ final = open_
 
 module _ (set : RuleSet) (bytes : List ℕ) where
   -- the word of a side

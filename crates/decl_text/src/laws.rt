@@ -51,7 +51,7 @@ pub fn quoted_texts_are_read_back()
 {}
 
 /// From a place on, at most one declaration stands, and it ends at one place; a line has one first
-/// fault; and where a declaration stands, only the token behind it can be at fault.
+/// fault; and not both.
 pub fn a_declaration_is_one()
     ensures decided { (rules : RuleSet) → IsDecided (declaration_tests rules) }
     ensures one { (bytes : List ℕ) (rules : RuleSet) (from : ℕ) (place other : PlaceValue)
@@ -59,10 +59,10 @@ pub fn a_declaration_is_one()
         → IsDeclaration bytes rules from other b end → (place ≡ other) × (a ≡ b) × (to ≡ end) }
     ensures fault { (bytes : List ℕ) (rules : RuleSet) (from : ℕ) (a b : FaultValue)
         → FailsDeclaration bytes rules from a → FailsDeclaration bytes rules from b → a ≡ b }
-    ensures behind { (bytes : List ℕ) (rules : RuleSet) (from : ℕ) (place : PlaceValue)
+    ensures apart { (bytes : List ℕ) (rules : RuleSet) (from : ℕ) (place : PlaceValue)
         → (relation : RelationValue) (to : ℕ) (fault : FaultValue)
-        → IsDeclaration bytes rules from place relation to → FailsDeclaration bytes rules from fault
-        → IsNextFault bytes to fault }
+        → IsDeclaration bytes rules from place relation to
+        → ¬ (FailsDeclaration bytes rules from fault) }
 {}
 
 /// A relation whose declaration is read from a line fits the mapping before it.

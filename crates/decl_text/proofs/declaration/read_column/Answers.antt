@@ -1,7 +1,7 @@
 use Rattle.std.proofs.Common.{◌≡◌, Err, rules, arith}
 use Rattle.decl_text.specs.Declaration.{wants_column, declaration_tests}
 use Rattle.decl_text.proofs.TestLemmas.{Fails-at}
-use Rattle.decl_text.proofs.DeclarationLemmas.{IfFault-later, column_fails, column_goes, column_is_old, column_too_many}
+use Rattle.decl_text.proofs.DeclarationLemmas.{IfFault-later, declaration_wants, column_fails, column_goes, column_is_old, column_too_many}
 use Rattle.decl_text.proofs.declaration.read_column.Goals as goal
 
 pub returns-in_err-column-clause-fault : goal.returns-in_err-column-clause-fault
@@ -9,7 +9,8 @@ returns-in_err-column-clause-fault c set place name =
     let answer : c.from_residual.result ≡ Err c.in_err-column.field-0.0 = search rules in
     rw answer (IfFault-later c.in_err-column.field-0.0 _ _
     (λ fault. Fails-at (declaration_tests set) c.args.bytes.now c.args.from
-    (wants_column place (record { name = name; columns = c.args.columns.now })) _ fault
+    (wants_column place (record { name = name; columns = c.args.columns.now }))
+    (declaration_wants set (wants_column place (record { name = name; columns = c.args.columns.now })) tt) _ fault
     (column_fails set c.args.bytes.now place (record { name = name; columns = c.args.columns.now }))) c.in_err-column.ensures.fault)
 
 pub returns-then-is_among-clause-fault : goal.returns-then-is_among-clause-fault

@@ -1,7 +1,7 @@
 use Rattle.std.proofs.Common.{◌≡◌, [], ◌∷◌, ◌++◌, Err, rules}
 use Rattle.decl_text.specs.Declaration.{wants_column, wants_comma, wants_line_end, declaration_tests}
 use Rattle.decl_text.proofs.TestLemmas.{Leads-join, Fails-later, Fails-own}
-use Rattle.decl_text.proofs.DeclarationLemmas.{IfFault-later, one_more_column, comma_goes, columns_end, comma_fails}
+use Rattle.decl_text.proofs.DeclarationLemmas.{IfFault-later, declaration_wants, one_more_column, comma_goes, columns_end, comma_fails}
 use Rattle.decl_text.proofs.declaration.read_columns.Goals as goal
 
 pub returns-in_err-column-clause-fault : goal.returns-in_err-column-clause-fault
@@ -22,7 +22,8 @@ returns-in_err-token-clause-fault c set place name =
     (λ fault own. Fails-later (declaration_tests set) c.args.bytes.now c.args.from (wants_column place (record { name = name; columns = [] }))
     c.in_ok-column.column.token.end (wants_comma place (record { name = name; columns = all })) fault so_far
     (Fails-own (declaration_tests set) c.args.bytes.now c.in_ok-column.column.token.end
-    (wants_comma place (record { name = name; columns = all })) fault own)) c.in_err-token.ensures.fault)
+    (wants_comma place (record { name = name; columns = all }))
+    (declaration_wants set (wants_comma place (record { name = name; columns = all })) tt) fault own)) c.in_err-token.ensures.fault)
 
 pub loop-columns-preserved : goal.loop-columns-preserved
 loop-columns-preserved c =

@@ -2,7 +2,7 @@
 use Rattle.std.proofs.Common.{◌≡◌, [], Err, rules}
 use Rattle.decl_text.specs.Declaration.{begins, wants_name, wants_parenthesis, wants_column, wants_line_end, declared, declaration_tests}
 use Rattle.decl_text.proofs.TestLemmas.{Leads-join, Fails-later, Fails-at}
-use Rattle.decl_text.proofs.DeclarationLemmas.{IfFault-later, up_to_parenthesis, up_to_columns, up_to_line_end, parenthesis_fails}
+use Rattle.decl_text.proofs.DeclarationLemmas.{IfFault-later, declaration_wants, up_to_parenthesis, up_to_columns, up_to_line_end, parenthesis_fails}
 use Rattle.decl_text.proofs.declaration.read_declaration.Goals as goal
 
 pub returns-in_err-place-clause-fault : goal.returns-in_err-place-clause-fault
@@ -29,7 +29,8 @@ returns-in_err-after-clause-fault c =
     (λ fault bad. Fails-later (declaration_tests set) bytes c.args.from begins name.token.end (wants_parenthesis place name.text) fault
     (up_to_parenthesis set bytes c.args.from c.in_ok-place.after place name.token name.text
     (c.in_ok-place.ensures.side set) (c.in_ok-name.ensures.name place))
-    (Fails-at (declaration_tests set) bytes name.token.end (wants_parenthesis place name.text) _ fault
+    (Fails-at (declaration_tests set) bytes name.token.end (wants_parenthesis place name.text)
+    (declaration_wants set (wants_parenthesis place name.text) tt) _ fault
     (parenthesis_fails set bytes place name.text) bad)) c.in_err-after.ensures.fault)
 
 pub returns-in_err-columns-clause-fault : goal.returns-in_err-columns-clause-fault

@@ -1,14 +1,15 @@
 use Rattle.std.proofs.Common.{◌≡◌, Err, ⊎_elim, rules}
 use Rattle.decl_text.specs.Declaration.{wants_line_end, declaration_tests}
 use Rattle.decl_text.proofs.TestLemmas.{Fails-own}
-use Rattle.decl_text.proofs.DeclarationLemmas.{IfFault-later, line_ends, line_goes_on}
+use Rattle.decl_text.proofs.DeclarationLemmas.{IfFault-later, declaration_wants, line_ends, line_goes_on}
 use Rattle.decl_text.proofs.declaration.read_line_end.Goals as goal
 
 pub returns-in_err-token-clause-fault : goal.returns-in_err-token-clause-fault
 returns-in_err-token-clause-fault c set place relation =
     let answer : c.from_residual.result ≡ Err c.in_err-token.field-0.0 = search rules in
     rw answer (IfFault-later c.in_err-token.field-0.0 _ _
-    (Fails-own (declaration_tests set) c.args.bytes.now c.args.from (wants_line_end place relation)) c.in_err-token.ensures.fault)
+    (Fails-own (declaration_tests set) c.args.bytes.now c.args.from (wants_line_end place relation)
+    (declaration_wants set (wants_line_end place relation) tt)) c.in_err-token.ensures.fault)
 
 pub returns-in-LineEnd-clause-end : goal.returns-in-LineEnd-clause-end
 returns-in-LineEnd-clause-end c set place relation =

@@ -1,14 +1,15 @@
 use Rattle.std.proofs.Common.{◌≡◌, Err, rules}
 use Rattle.decl_text.specs.Declaration.{wants_name, declaration_tests}
 use Rattle.decl_text.proofs.TestLemmas.{Fails-at}
-use Rattle.decl_text.proofs.DeclarationLemmas.{IfFault-later, name_fails, name_goes, name_is_old, no_place}
+use Rattle.decl_text.proofs.DeclarationLemmas.{IfFault-later, declaration_wants, name_fails, name_goes, name_is_old, no_place}
 use Rattle.decl_text.proofs.declaration.read_relation_name.Goals as goal
 
 pub returns-in_err-name-clause-fault : goal.returns-in_err-name-clause-fault
 returns-in_err-name-clause-fault c place =
     let answer : c.from_residual.result ≡ Err c.in_err-name.field-0.0 = search rules in
     rw answer (IfFault-later c.in_err-name.field-0.0 _ _
-    (λ fault. Fails-at (declaration_tests c.args.rules.now) c.args.bytes.now c.args.from (wants_name place) _ fault
+    (λ fault. Fails-at (declaration_tests c.args.rules.now) c.args.bytes.now c.args.from (wants_name place)
+    (declaration_wants c.args.rules.now (wants_name place) tt) _ fault
     (name_fails c.args.rules.now c.args.bytes.now place)) c.in_err-name.ensures.fault)
 
 pub returns-then-not-is_new-clause-fault : goal.returns-then-not-is_new-clause-fault

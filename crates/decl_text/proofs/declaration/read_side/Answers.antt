@@ -1,13 +1,13 @@
 use Rattle.std.proofs.Common.{◌≡◌, Err, rules}
 use Rattle.decl_text.specs.Declaration.{begins, declaration_tests}
 use Rattle.decl_text.proofs.TestLemmas.{Fails-own}
-use Rattle.decl_text.proofs.DeclarationLemmas.{IfFault-later, source_goes, target_goes, side_fails}
+use Rattle.decl_text.proofs.DeclarationLemmas.{IfFault-later, declaration_wants, source_goes, target_goes, side_fails}
 use Rattle.decl_text.proofs.declaration.read_side.Goals as goal
 
 pub returns-in_err-token-clause-fault : goal.returns-in_err-token-clause-fault
 returns-in_err-token-clause-fault c set =
     let answer : c.from_residual.result ≡ Err c.in_err-token.field-0.0 = search rules in
-    rw answer (IfFault-later c.in_err-token.field-0.0 _ _ (Fails-own (declaration_tests set) c.args.bytes.now c.args.from begins)
+    rw answer (IfFault-later c.in_err-token.field-0.0 _ _ (Fails-own (declaration_tests set) c.args.bytes.now c.args.from begins (declaration_wants set begins tt))
     c.in_err-token.ensures.fault)
 
 pub returns-then-is_word-clause-side : goal.returns-then-is_word-clause-side
