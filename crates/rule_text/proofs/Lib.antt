@@ -1,1 +1,3 @@
 pub mod OneOutcome
+pub mod BodyLemmas
+pub mod FitLemmas

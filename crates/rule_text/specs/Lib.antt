@@ -1,1 +1,2 @@
 pub mod RuleLine
+pub mod Adding

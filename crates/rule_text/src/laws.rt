@@ -1,11 +1,13 @@
-//! Laws of the definitions: a line states one rule, or has one first fault.
+//! Laws of the definitions: a line states one rule, which fits, or has one first fault.
 
 ghost use Rattle.std.specs.Prelude.{◌≡◌, ℕ, List};
 ghost use Rattle.decl_text.specs.declared.fault.MappingFault.{MappingFault as FaultValue};
 ghost use Rattle.decl_text.specs.Tokens.{IsNextFault};
 ghost use Rattle.decl_text.specs.Tests.{IsDecided};
 ghost use Rattle.rule_core.specs.Mapping.{RuleSet};
+ghost use Rattle.rule_core.specs.Validity.{IsValid};
 ghost use Rattle.rule_text.specs.declared.rule.Rule.{Rule as RuleValue};
+ghost use Rattle.rule_text.specs.Adding.{with_rule};
 ghost use Rattle.rule_text.specs.RuleLine.{rule_tests, IsRule, FailsRule};
 
 /// From a place on, at most one rule is stated, and its line ends at one place; a line has one first
@@ -20,4 +22,11 @@ pub fn a_rule_is_one()
     ensures behind { (bytes : List ℕ) (rules : RuleSet) (pool : List (List ℕ)) (from : ℕ) (rule : RuleValue)
         → (to : ℕ) (fault : FaultValue) → IsRule bytes rules pool from rule to
         → FailsRule bytes rules pool from fault → IsNextFault bytes to fault }
+{}
+
+/// A rule that is read from a line fits the mapping before it.
+pub fn what_is_read_fits()
+    ensures { (bytes : List ℕ) (rules : RuleSet) (pool : List (List ℕ)) (from : ℕ) (rule : RuleValue)
+        → (to : ℕ) → IsValid rules → IsRule bytes rules pool from rule to
+        → IsValid (with_rule rules rule) }
 {}
