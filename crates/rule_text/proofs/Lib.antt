@@ -1,3 +1,4 @@
 pub mod OneOutcome
 pub mod BodyLemmas
 pub mod FitLemmas
+pub mod ConstantLemmas

@@ -1,2 +1,3 @@
 pub mod RuleLine
 pub mod Adding
+pub mod Constants
