@@ -137,10 +137,10 @@ declared_fits bytes rules from place relation to valid line =
     })
 
 -- a name is in no quotes, and no sign is
-name_unquoted : (kind : Kind) → kind ≡ Name → kind ≢ Quoted
+pub name_unquoted : (kind : Kind) → kind ≡ Name → kind ≢ Quoted
 name_unquoted kind e f = cc
 
-end_unquoted : (lexeme : Lexeme) → EndsLine lexeme → lexeme.kind ≢ Quoted
+pub end_unquoted : (lexeme : Lexeme) → EndsLine lexeme → lexeme.kind ≢ Quoted
 end_unquoted lexeme (inl e) f = cc
 end_unquoted lexeme (inr e) f = cc
 

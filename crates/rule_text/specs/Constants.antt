@@ -1,17 +1,39 @@
--- The constants of a rule.
-use Rattle.std.specs.Prelude.{◌⊎◌, List, Any, Contains}
+-- The constants of a rule, in the order in which its line says them.
+use Rattle.std.specs.Prelude.{◌≡◌, ℕ, List, [], ◌∷◌, ◌++◌, flat_map, Contains, Some, slice_get}
 use Rattle.term_core.specs.declared.const_id.ConstId.{ConstId}
-use Rattle.rule_core.specs.declared.rules.Arg.TheVariants.{Const}
+use Rattle.rule_core.specs.declared.rules.Arg.{Arg}
+use Rattle.rule_core.specs.declared.rules.Arg.TheVariants.{Var, Const}
 use Rattle.rule_core.specs.declared.rules.Atom.{Atom}
+use Rattle.decl_text.specs.declared.token.Kind.TheVariants.{Quoted}
+use Rattle.decl_text.specs.declared.token.Token.{Token}
+use Rattle.decl_text.specs.Tests.{Says}
 use Rattle.rule_text.specs.declared.rule.Rule.{Rule}
 use Rattle.rule_text.specs.declared.rule.Rule.TheVariants.{Tgd, Egd, Query}
 
--- some atom has the constant among its arguments
-abbrev pub AtomsHave : List Atom → ConstId → Type 0
-AtomsHave atoms constant = Any (λ atom. Contains atom.args (Const constant)) atoms
+-- the constants among arguments, from left to right
+abbrev pub constants_in : List Arg → List ConstId
+constants_in [] = []
+constants_in (Var v ∷ args) = constants_in args
+constants_in (Const c ∷ args) = c ∷ constants_in args
 
--- an atom of the rule has the constant among its arguments
+-- the constants of atoms, from left to right, each as often as it occurs
+abbrev pub constants_among : List Atom → List ConstId
+constants_among atoms = flat_map (λ atom. constants_in atom.args) atoms
+
+-- the constants of a rule: of its body and head, or of its disjuncts
+abbrev pub constants_of : Rule → List ConstId
+constants_of (Tgd tgd) = constants_among tgd.body ++ constants_among tgd.head
+constants_of (Egd egd) = constants_among egd.body
+constants_of (Query query) = flat_map (λ branch. constants_among branch.body) query.branches
+
+-- the constant is an argument of one of the rule's atoms
 abbrev pub HasConstant : Rule → ConstId → Type 0
-HasConstant (Tgd tgd) constant = AtomsHave tgd.body constant ⊎ AtomsHave tgd.head constant
-HasConstant (Egd egd) constant = AtomsHave egd.body constant
-HasConstant (Query query) constant = Any (λ branch. AtomsHave branch.body constant) query.branches
+HasConstant rule c = Contains (constants_of rule) c
+
+-- some constant of the rule has this text in the pool
+abbrev pub NeedsText : List (List ℕ) → Rule → List ℕ → Type 0
+NeedsText pool rule text = (c : ConstId) × HasConstant rule c × (slice_get pool c.0 ≡ Some text)
+
+-- the text stands in quotes among the tokens
+abbrev pub IsQuotedAmong : List ℕ → List Token → List ℕ → Type 0
+IsQuotedAmong bytes tokens text = (token : Token) × Contains tokens token × Says bytes token (record { kind = Quoted; text = text })

@@ -1,11 +1,17 @@
-//! Laws of the definitions: a line states one rule, or has one first fault.
+//! Laws of the definitions: a line states one rule, which fits, or has one first fault; a rule's constants
+//! are the texts in its quotes.
 
-ghost use Rattle.std.specs.Prelude.{◌≡◌, ℕ, List};
+ghost use Rattle.std.specs.Prelude.{◌≡◌, ◌↔◌, ℕ, ◌≤◌, List, length, Some, slice_get};
 ghost use Rattle.decl_text.specs.declared.fault.MappingFault.{MappingFault as FaultValue};
-ghost use Rattle.decl_text.specs.Tests.{IsDecided};
+ghost use Rattle.decl_text.specs.Tests.{IsDecided, Pass};
+ghost use Rattle.decl_text.specs.declared.token.Token.{Token as TokenValue};
+ghost use Rattle.term_core.specs.declared.const_id.ConstId.{ConstId};
 ghost use Rattle.rule_core.specs.Mapping.{RuleSet};
+ghost use Rattle.rule_core.specs.Validity.{IsValid};
 ghost use Rattle.rule_text.specs.declared.rule.Rule.{Rule as RuleValue};
-ghost use Rattle.rule_text.specs.RuleLine.{rule_tests, IsRule, FailsRule};
+ghost use Rattle.rule_text.specs.Adding.{with_rule};
+ghost use Rattle.rule_text.specs.Constants.{HasConstant, NeedsText, IsQuotedAmong};
+ghost use Rattle.rule_text.specs.RuleLine.{begins, stated, rule_tests, IsRule, FailsRule};
 
 /// From a place on, at most one rule is stated, and its line ends at one place; a line has one first
 /// fault; and not both.
@@ -19,4 +25,28 @@ pub fn a_rule_is_one()
     ensures apart { (bytes : List ℕ) (rules : RuleSet) (pool : List (List ℕ)) (from : ℕ) (rule : RuleValue)
         → (to : ℕ) (fault : FaultValue) → IsRule bytes rules pool from rule to
         → ¬ (FailsRule bytes rules pool from fault) }
+{}
+
+/// A rule that is read from a line fits the mapping before it.
+pub fn what_is_read_fits()
+    ensures { (bytes : List ℕ) (rules : RuleSet) (pool : List (List ℕ)) (from : ℕ) (rule : RuleValue)
+        → (to : ℕ) → IsValid rules → IsRule bytes rules pool from rule to
+        → IsValid (with_rule rules rule) }
+{}
+
+/// In a line that states a rule, the texts in quotes are those of the rule's constants in the pool: each
+/// has at most 4,096 bytes, and each constant has one.
+pub fn constants_are_the_quoted_texts()
+    ensures same { (rules : RuleSet) (pool : List (List ℕ)) (bytes : List ℕ) (from : ℕ) (rule : RuleValue)
+        → (tokens : List TokenValue) (to : ℕ)
+        → Pass (rule_tests rules pool) bytes from begins tokens to (stated rule)
+        → (text : List ℕ) → IsQuotedAmong bytes tokens text ↔ NeedsText pool rule text }
+    ensures short { (rules : RuleSet) (pool : List (List ℕ)) (bytes : List ℕ) (from : ℕ) (rule : RuleValue)
+        → (tokens : List TokenValue) (to : ℕ)
+        → Pass (rule_tests rules pool) bytes from begins tokens to (stated rule)
+        → (text : List ℕ) → IsQuotedAmong bytes tokens text → length text ≤ 4096 }
+    ensures known { (rules : RuleSet) (pool : List (List ℕ)) (bytes : List ℕ) (from : ℕ) (rule : RuleValue)
+        → (tokens : List TokenValue) (to : ℕ)
+        → Pass (rule_tests rules pool) bytes from begins tokens to (stated rule)
+        → (c : ConstId) → HasConstant rule c → (text : List ℕ) × (slice_get pool c.0 ≡ Some text) }
 {}
