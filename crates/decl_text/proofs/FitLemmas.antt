@@ -82,12 +82,14 @@ module _ (rules : RuleSet) where
       let room = Test-next new.1 in
       let size = length_push relation.columns lexeme.text in
       let fewer = room.0 in
-      subst Fits (Goes-next (wants_comma place (with_column relation lexeme.text)) next room.1)
-      (record {
-        name = fits.name;
-        columns = names_more relation.columns lexeme.text fits.columns name.0 new.0;
-        most = omega (arith, size, fewer);
-      }, omega (arith, size))
+      subst Fits (Goes-next (wants_comma place (with_column relation lexeme.text)) next room.1) (
+        record {
+          name = fits.name;
+          columns = names_more relation.columns lexeme.text fits.columns name.0 new.0;
+          most = omega (arith, size, fewer);
+        },
+        omega (arith, size),
+      )
 
   comma : (place : Place) (relation : Relation) (next : DeclarationPosition) (lexeme : Lexeme)
       → declaration_tests rules (wants_comma place relation) lexeme (goes next) → Fits (wants_comma place relation) → Fits next

@@ -2,7 +2,7 @@
 use Rattle.std.proofs.Common.{◌≢◌, inl, inr, ℕ, List, [], ◌∷◌, refl, sym, ap, subst}
 use Rattle.decl_text.specs.declared.token.Token.{Token}
 use Rattle.decl_text.specs.declared.fault.MappingFault.{MappingFault}
-use Rattle.decl_text.specs.Tests.{Lexeme, Outcome, goes, stops, Pass, FailsNext, Fails}
+use Rattle.decl_text.specs.Tests.{Lexeme, Outcome, goes, stops, IsFinal, Pass, FailsNext, Fails}
 use Rattle.decl_text.specs.Parts.{StandsNext}
 use Rattle.mapping_core.specs.Reading.{placed}
 
@@ -21,7 +21,8 @@ module _ {P Q : Type 0} (inner : P → Lexeme → Outcome P → Type 0) (outer :
   )
 
   FailsNext-placed : (from : ℕ) (p : P) (fault : MappingFault) → FailsNext inner bytes from p fault → FailsNext outer bytes from (place p) fault
-  FailsNext-placed from p fault (inl own) = inl own
+  FailsNext-placed from p fault (inl (wanted, own)) =
+      inl (λ final. wanted (λ lexeme outcome h. final lexeme (placed place outcome) (step p lexeme outcome h)), own)
   FailsNext-placed from p fault (inr (token, next, comes, at)) = inr (
     token,
     next,
@@ -47,8 +48,8 @@ module _ {P Q : Type 0} (inner : P → Lexeme → Outcome P → Type 0) (outer :
   pub Fails-begun : (begin : P) (start : Q) (from : ℕ) (fault : MappingFault)
       → ((token : Token) (lexeme : Lexeme) (outcome : Outcome P) → StandsNext bytes from token lexeme → inner begin lexeme outcome
       → outer start lexeme (placed place outcome))
-      → Fails inner bytes from begin fault → Fails outer bytes from start fault
-  Fails-begun begin start from fault first fails = by_tokens fails.good.0 fails.good.1
+      → ¬ IsFinal outer start → Fails inner bytes from begin fault → Fails outer bytes from start fault
+  Fails-begun begin start from fault first open_ fails = by_tokens fails.good.0 fails.good.1
     where
       by_tokens : (tokens : List Token) → Pass inner bytes from begin tokens fails.at fails.after → Fails outer bytes from start fault
       by_tokens [] pass = record {
@@ -59,7 +60,7 @@ module _ {P Q : Type 0} (inner : P → Lexeme → Outcome P → Type 0) (outer :
       }
         where
           begun : FailsNext inner bytes from begin fault → FailsNext outer bytes from start fault
-          begun (inl own) = inl own
+          begun (inl (wanted, own)) = inl (open_, own)
           begun (inr (token, next, comes, at)) = inr (
             token,
             next,

@@ -10,7 +10,7 @@ use Rattle.decl_text.specs.Tokens.{IsSpelled, IsNextToken, IsNextFault}
 use Rattle.decl_text.specs.Tests.{Lexeme, Outcome, Pass}
 use Rattle.decl_text.specs.TokenList.{Stand, IsQuotedFrom}
 use Rattle.decl_text.proofs.NextLemmas.{next_token_once, next_apart}
-use Rattle.mapping_core.specs.Pending.{Quotes}
+use Rattle.rule_text.specs.Constants.{IsQuotedAmong}
 use Rattle.mapping_core.specs.Steps.{SaysQuoted}
 
 -- what stands in quotes stands in the next token, or from its end on
@@ -119,7 +119,7 @@ quoted_no_finish bytes from text over (tokens, to, found, stand, member, says) =
 
 -- what stands in quotes from a place on stands in the tokens up to a later place, or from there on
 pub quoted_split : (bytes : List ℕ) (from : ℕ) (tokens : List Token) (to : ℕ) (text : List ℕ) → Stand bytes from tokens to
-    → IsQuotedFrom bytes from text → Quotes bytes tokens text ⊎ IsQuotedFrom bytes to text
+    → IsQuotedFrom bytes from text → IsQuotedAmong bytes tokens text ⊎ IsQuotedFrom bytes to text
 quoted_split bytes from [] to text stand q = inr (subst (λ n. IsQuotedFrom bytes n text) (sym stand) q)
 quoted_split bytes from (token ∷ tokens) to text stand q = elim (quoted_next bytes from token text stand.0 q) [
   | inl says ↦ inl (token, Contains-head token tokens, says)
@@ -130,7 +130,7 @@ quoted_split bytes from (token ∷ tokens) to text stand q = elim (quoted_next b
 ]
 
 pub quoted_first : (bytes : List ℕ) (from : ℕ) (tokens : List Token) (to : ℕ) (text : List ℕ) → Stand bytes from tokens to
-    → Quotes bytes tokens text → IsQuotedFrom bytes from text
+    → IsQuotedAmong bytes tokens text → IsQuotedFrom bytes from text
 quoted_first bytes from tokens to text stand found = (tokens, to, found.0, stand, found.1, found.2)
 
 pub quoted_rest : (bytes : List ℕ) (from : ℕ) (tokens : List Token) (to : ℕ) (text : List ℕ) → Stand bytes from tokens to

@@ -1,6 +1,7 @@
 -- What is known after each line of a mapping's text.
 use Rattle.std.proofs.Common.{◌≡◌, ◌≢◌, ◌⊎◌, ◌↔◌, inl, inr, ℕ, ◌<◌, ◌≤◌, List, [], ◌∷◌, length, slice_get, Some, Contains, refl, sym, ap, ◌∙◌, arith, rules}
 use Rattle.std.proofs.lemmas.List.Elements.{All-weaker, All-contains_itself}
+use Rattle.std.proofs.lemmas.Option.{slice_get_within}
 use Rattle.term_core.specs.declared.const_id.ConstId.{ConstId}
 use Rattle.rule_core.specs.Mapping.{RuleSet}
 use Rattle.rule_core.proofs.ListLemmas.{Contains-nil, Contains-cons_cases}
@@ -12,7 +13,7 @@ use Rattle.decl_text.specs.declared.token.Token.{Token}
 use Rattle.decl_text.specs.declared.fault.MappingFault.{MappingFault}
 use Rattle.decl_text.specs.Tokens.{IsNextToken, IsNextFault}
 use Rattle.decl_text.specs.TokenList.{KnowsTexts}
-use Rattle.decl_text.specs.Tests.{Lexeme, Outcome, goes, Pass, Fails}
+use Rattle.decl_text.specs.Tests.{Lexeme, Outcome, goes, IsFinal, Pass, Fails}
 use Rattle.decl_text.specs.Declaration.{declared, declaration_tests, IsDeclaration, FailsDeclaration}
 use Rattle.decl_text.specs.Declaration as declaration
 use Rattle.decl_text.proofs.TestLemmas.{Leads-none, Leads-join, Fails-own, Fails-later, sign_says}
@@ -20,11 +21,12 @@ use Rattle.rule_text.specs.declared.rule.Rule.{Rule}
 use Rattle.rule_text.specs.RuleLine.{stated, rule_tests, IsRule, FailsRule}
 use Rattle.rule_text.specs.RuleLine as line
 use Rattle.rule_text.specs.Adding.{with_rule}
-use Rattle.rule_text.specs.Constants.{HasConstant}
+use Rattle.rule_text.specs.Constants.{HasConstant, IsQuotedAmong}
 use Rattle.mapping_core.specs.Mapping.{AnyHasConstant, IsConstantText, HasItsConstants, meaning_of}
 use Rattle.mapping_core.specs.Reading.{at_line, of_declaration, of_rule, mapping_tests, no_rules, IsPoolOf, IsMapping}
 use Rattle.mapping_core.specs.Steps.{ReadsTo, RuleBegins, OtherBegins}
-use Rattle.mapping_core.specs.Pending.{Quotes, ConstantsAreQuoted, DeclarationsQuoteNothing}
+use Rattle.rule_text.proofs.ConstantLemmas.{rule_texts, rule_texts_short, rule_constants_known}
+use Rattle.decl_text.proofs.FitLemmas.{declared_unquoted}
 use Rattle.mapping_core.proofs.QuotedLemmas.{quoted_split, quoted_first, quoted_rest, quoted_no_finish, Pass-stand, Stand-forward, AtEnd-finish, token_forward}
 use Rattle.mapping_core.proofs.PlacedLemmas.{Pass-begun, Fails-begun}
 use Rattle.mapping_core.proofs.LineLemmas.{rule_step, declaration_step, rule_first, rule_word, rule_word_is_name, declaration_first, declaration_word, more_constants, same_constants}
@@ -46,7 +48,7 @@ ReadsTo-start bytes pool = record {
 ReadsTo-line : (bytes : List ℕ) (pool : List (List ℕ)) (from : ℕ) (set after : RuleSet) (tokens : List Token) (to : ℕ) (New : ConstId → Type 0)
     → ReadsTo bytes pool from set → Pass (mapping_tests pool) bytes from (at_line set) tokens to (at_line after)
     → ((constant : ConstId) → AnyHasConstant after constant ↔ (AnyHasConstant set constant ⊎ New constant))
-    → ((text : List ℕ) → Quotes bytes tokens text ↔ ((constant : ConstId) × New constant × (slice_get pool constant.0 ≡ Some text)))
+    → ((text : List ℕ) → IsQuotedAmong bytes tokens text ↔ ((constant : ConstId) × New constant × (slice_get pool constant.0 ≡ Some text)))
     → ((text : List ℕ) → ((constant : ConstId) × New constant × (slice_get pool constant.0 ≡ Some text)) → length text ≤ 4096)
     → ((constant : ConstId) → New constant → constant.0 < length pool)
     → ReadsTo bytes pool to after
@@ -78,7 +80,7 @@ ReadsTo-line bytes pool from set after tokens to New before pass more quotes sho
 ReadsTo-plain : (bytes : List ℕ) (pool : List (List ℕ)) (from : ℕ) (set after : RuleSet) (tokens : List Token) (to : ℕ)
     → ReadsTo bytes pool from set → Pass (mapping_tests pool) bytes from (at_line set) tokens to (at_line after)
     → ((constant : ConstId) → AnyHasConstant after constant ↔ AnyHasConstant set constant)
-    → ((text : List ℕ) → ¬ Quotes bytes tokens text)
+    → ((text : List ℕ) → ¬ IsQuotedAmong bytes tokens text)
     → ReadsTo bytes pool to after
 ReadsTo-plain bytes pool from set after tokens to before pass same none =
     ReadsTo-line bytes pool from set after tokens to (λ constant. ⊥) before pass
@@ -91,24 +93,26 @@ rule_goes_on rule e = search rules
 declaration_goes_on : (place : Place) (relation : Relation) → declaration.begins ≢ declared place relation
 declaration_goes_on place relation e = search rules
 
-pub ReadsTo-rule : ConstantsAreQuoted → (bytes : List ℕ) (pool : List (List ℕ)) (from : ℕ) (set : RuleSet) (rule : Rule) (to : ℕ)
+pub ReadsTo-rule : (bytes : List ℕ) (pool : List (List ℕ)) (from : ℕ) (set : RuleSet) (rule : Rule) (to : ℕ)
     → ReadsTo bytes pool from set → IsRule bytes set pool from rule to → ReadsTo bytes pool to (with_rule set rule)
-ReadsTo-rule law bytes pool from set rule to before (tokens, pass) =
+ReadsTo-rule bytes pool from set rule to before (tokens, pass) =
     let whole = Pass-begun (rule_tests set pool) (mapping_tests pool) bytes (of_rule set) (rule_step set pool) line.begins (at_line set) from tokens to
     (stated rule) (rule_goes_on rule) (λ lexeme next h. rule_first set pool lexeme (goes next) (rule_word set pool lexeme next h) h) pass in
-    let constants = law bytes set pool from tokens to rule pass in
-    ReadsTo-line bytes pool from set (with_rule set rule) tokens to (HasConstant rule) before whole (more_constants set rule) constants.texts
-    constants.short constants.there
+    let texts = rule_texts set pool bytes from rule tokens to pass in
+    ReadsTo-line bytes pool from set (with_rule set rule) tokens to (HasConstant rule) before whole (more_constants set rule) texts
+    (λ text needs. rule_texts_short set pool bytes from rule tokens to pass text ((texts text).1 needs))
+    (λ constant has. let known = rule_constants_known set pool bytes from rule tokens to pass constant has in
+    slice_get_within pool constant.0 known.0 known.1)
 
-pub ReadsTo-declaration : DeclarationsQuoteNothing → (bytes : List ℕ) (pool : List (List ℕ)) (from : ℕ) (set : RuleSet) (place : Place)
+pub ReadsTo-declaration : (bytes : List ℕ) (pool : List (List ℕ)) (from : ℕ) (set : RuleSet) (place : Place)
     (relation : Relation) (to : ℕ)
     → ReadsTo bytes pool from set → IsDeclaration bytes set from place relation to → ReadsTo bytes pool to (with_relation set place relation)
-ReadsTo-declaration law bytes pool from set place relation to before (tokens, pass) =
+ReadsTo-declaration bytes pool from set place relation to before (tokens, pass) =
     let whole = Pass-begun (declaration_tests set) (mapping_tests pool) bytes (of_declaration set) (declaration_step set pool) declaration.begins
     (at_line set) from tokens to (declared place relation) (declaration_goes_on place relation)
     (λ lexeme next h. let word = declaration_word set lexeme next h in declaration_first set pool lexeme (goes next) word.0 word.1 h) pass in
     ReadsTo-plain bytes pool from set (with_relation set place relation) tokens to before whole (same_constants set place relation)
-    (law bytes set from tokens to place relation pass)
+    (λ text among. declared_unquoted bytes set from place relation tokens to pass among.0 text among.1 among.2)
 
 line_end_is_other : (LineEnd ≢ Name) × (LineEnd ≢ Quoted)
 line_end_is_other = (λ e. search rules, λ e. search rules)
@@ -149,13 +153,17 @@ declaration_forward bytes from set place relation to (tokens, pass) = line_forwa
     (declared place relation) from tokens to (declaration_goes_on place relation)
     (λ lexeme next h e. (declaration_word set lexeme next h).0 (inr e)) pass
 
+-- at the beginning of a line a token is wanted
+pub line_wants : (pool : List (List ℕ)) (set : RuleSet) → ¬ IsFinal (mapping_tests pool) (at_line set)
+line_wants pool set final = final (record { kind = LineEnd; text = [] }) (goes (at_line set)) (inl (inl refl, refl))
+
 -- a fault of a line is the first of the text
 pub rule_fails : (bytes : List ℕ) (pool : List (List ℕ)) (from : ℕ) (set : RuleSet) (fault : MappingFault) → ReadsTo bytes pool from set
     → RuleBegins bytes from → FailsRule bytes set pool from fault → Fails (mapping_tests pool) bytes 0 (at_line no_rules) fault
 rule_fails bytes pool from set fault before begins fails =
     Fails-later (mapping_tests pool) bytes 0 (at_line no_rules) from (at_line set) fault before.lines
     (Fails-begun (rule_tests set pool) (mapping_tests pool) bytes (of_rule set) (rule_step set pool) line.begins (at_line set) from fault
-    (λ token lexeme outcome stands h. rule_first set pool lexeme outcome (begins token lexeme stands) h) fails)
+    (λ token lexeme outcome stands h. rule_first set pool lexeme outcome (begins token lexeme stands) h) (line_wants pool set) fails)
 
 pub declaration_fails : (bytes : List ℕ) (pool : List (List ℕ)) (from : ℕ) (set : RuleSet) (fault : MappingFault) → ReadsTo bytes pool from set
     → OtherBegins bytes from → FailsDeclaration bytes set from fault → Fails (mapping_tests pool) bytes 0 (at_line no_rules) fault
@@ -163,14 +171,14 @@ declaration_fails bytes pool from set fault before begins fails =
     Fails-later (mapping_tests pool) bytes 0 (at_line no_rules) from (at_line set) fault before.lines
     (Fails-begun (declaration_tests set) (mapping_tests pool) bytes (of_declaration set) (declaration_step set pool) declaration.begins (at_line set)
     from fault (λ token lexeme outcome stands h. let other = begins token lexeme stands in declaration_first set pool lexeme outcome other.0 other.1 h)
-    fails)
+    (line_wants pool set) fails)
 
 -- so is the fault of a token at the beginning of a line
 pub token_fails : (bytes : List ℕ) (pool : List (List ℕ)) (from : ℕ) (set : RuleSet) (fault : MappingFault) → ReadsTo bytes pool from set
     → IsNextFault bytes from fault → Fails (mapping_tests pool) bytes 0 (at_line no_rules) fault
 token_fails bytes pool from set fault before own =
     Fails-later (mapping_tests pool) bytes 0 (at_line no_rules) from (at_line set) fault before.lines
-    (Fails-own (mapping_tests pool) bytes from (at_line set) fault own)
+    (Fails-own (mapping_tests pool) bytes from (at_line set) (line_wants pool set) fault own)
 
 -- the pool has what stands in quotes from a line on
 pub ReadsTo-knows : (bytes : List ℕ) (pool : List (List ℕ)) (from : ℕ) (set : RuleSet) → ReadsTo bytes pool from set → IsPoolOf bytes pool

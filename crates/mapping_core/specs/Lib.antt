@@ -1,4 +1,3 @@
 pub mod Mapping
 pub mod Reading
 pub mod Steps
-pub mod Pending

@@ -2,7 +2,6 @@
 #![tactic(auto)]
 
 mod mapping;
-mod pending;
 mod reading;
 
 pub use mapping::Mapping;

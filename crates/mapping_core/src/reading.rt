@@ -12,7 +12,6 @@ ghost use Rattle.mapping_core.specs.Reading.{at_line, no_rules, mapping_tests, B
 ghost use Rattle.mapping_core.specs.Steps.{SaysQuoted, ReadsTo, RuleBegins, OtherBegins};
 
 use crate::Mapping;
-use crate::pending::laws_of_lines;
 use decl_text::{
     Kind, ReadError, Token, is_word, next_token, quoted, read_declaration, read_token,
 };
@@ -151,7 +150,6 @@ fn read_rule_line(
     ensures fault { IfFault result (Fails (mapping_tests pool.now) bytes.now 0 (at_line no_rules)) }
     ensures err { OnErr result (rules.new ≡ rules.old) }
 {
-    laws_of_lines()?;
     let line = read_rule(alloc, bytes, from, rules, pool)?;
     add_rule(rules, line.0)?;
     Ok(line.1)
@@ -187,7 +185,6 @@ fn read_declaration_line(
     ensures fault { IfFault result (Fails (mapping_tests pool.now) bytes.now 0 (at_line no_rules)) }
     ensures err { OnErr result (rules.new ≡ rules.old) }
 {
-    laws_of_lines()?;
     let (place, relation, to) = read_declaration(alloc, bytes, from, rules)?;
     rules.add_relation(place, relation)?;
     Ok(to)

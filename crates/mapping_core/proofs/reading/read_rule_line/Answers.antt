@@ -10,14 +10,14 @@ read_rule-requires-clause-known c =
 
 pub returns-in_err-line-clause-fault : goal.returns-in_err-line-clause-fault
 returns-in_err-line-clause-fault c =
-    let p = err_from_is_err_and c.from_residual-in_err-line.result c.from_residual-in_err-line.ensures.1 in
+    let p = err_from_is_err_and c.from_residual.result c.from_residual.ensures.1 in
     rw (p.1, p.2) (fault_onward c.in_err-line.field-0.0 (FailsRule c.args.bytes.now c.args.rules.now c.args.pool.now c.args.from) _
     (λ fault. rule_fails c.args.bytes.now c.args.pool.now c.args.from c.args.rules.now fault c.requires.before c.requires.begins)
     c.in_err-line.ensures.fault)
 
 pub returns-clause-reads : goal.returns-clause-reads
 returns-clause-reads c =
-    rw c.in_ok-add_rule.ensures.ok (ReadsTo-rule c.in_ok-laws_of_lines.ensures.rules c.args.bytes.now c.args.pool.now c.args.from c.args.rules.now
+    rw c.in_ok-add_rule.ensures.ok (ReadsTo-rule c.args.bytes.now c.args.pool.now c.args.from c.args.rules.now
     c.in_ok-line.line.0 c.in_ok-line.line.1 c.requires.before c.in_ok-line.ensures.states)
 
 pub returns-clause-forward : goal.returns-clause-forward
