@@ -3,3 +3,4 @@ pub mod PlacedLemmas
 pub mod LineLemmas
 pub mod PoolLemmas
 pub mod ReadsLemmas
+pub mod OneMapping

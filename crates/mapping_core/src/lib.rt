@@ -1,6 +1,7 @@
 //! A whole mapping as text, both ways: its rules with the texts of their constants, or the first fault of the text.
 #![tactic(auto)]
 
+pub mod laws;
 mod mapping;
 mod reading;
 
