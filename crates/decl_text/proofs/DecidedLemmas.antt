@@ -6,9 +6,9 @@ use Rattle.rule_core.specs.Mapping.{RuleSet}
 use Rattle.decl_text.specs.declared.fault.Code.{Code}
 use Rattle.decl_text.specs.declared.fault.MappingFault.{MappingFault}
 use Rattle.decl_text.specs.Tokens.{IsNextFault}
-use Rattle.decl_text.specs.Tests.{Lexeme, Outcome, Goes, Stops, When, Test, IsDecided}
+use Rattle.decl_text.specs.Tests.{Lexeme, Outcome, Goes, Stops, When, Test, IsDecided, IsFinal}
 use Rattle.decl_text.specs.Declaration.{Named, begins, wants_name, wants_parenthesis, wants_column, wants_comma, wants_line_end, declared, declaration_tests, IsDeclaration, FailsDeclaration}
-use Rattle.decl_text.proofs.OneOutcome.{IsFinal, leads_once, leads_fails, fails_once}
+use Rattle.decl_text.proofs.OneOutcome.{leads_once, leads_fails, fails_once}
 
 module _ {P : Type 0} where
   -- at most one outcome fits

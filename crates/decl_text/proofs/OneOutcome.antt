@@ -7,18 +7,8 @@ use Rattle.decl_text.specs.declared.token.Token.{Token}
 use Rattle.decl_text.specs.declared.fault.Code.{Code}
 use Rattle.decl_text.specs.declared.fault.MappingFault.{MappingFault}
 use Rattle.decl_text.specs.Tokens.{IsSpelled, IsNextToken, IsNextFault}
-use Rattle.decl_text.specs.Tests.{Lexeme, IsTextOf, Says, Outcome, goes, stops, IsDecided, Comes, Pass, Leads, Finishes, FailsNext, Fails}
+use Rattle.decl_text.specs.Tests.{Lexeme, IsTextOf, Says, Outcome, goes, stops, IsDecided, IsFinal, Rests, Comes, Pass, Leads, Finishes, FailsNext, Fails}
 use Rattle.decl_text.proofs.NextLemmas.{next_token_once, next_fault_once, next_apart, quoted_read, fault_same}
-
-module _ {P : Type 0} (tests : P → Lexeme → Outcome P → Type 0) where
-  -- no token is tested here: the reading is over
-  abbrev pub IsFinal : P → Type 0
-  IsFinal position = (lexeme : Lexeme) (outcome : Outcome P) → ¬ tests position lexeme outcome
-
-  -- where the end of the text passes, it passes again and leaves the position as it is
-  abbrev pub Rests : Type 0
-  Rests = (position next : P) → tests position (record { kind = Finish; text = [] }) (goes next)
-      → tests next (record { kind = Finish; text = [] }) (goes next)
 
 -- a token has one text
 text_once : (kind : Kind) (spelled a b : List ℕ) → IsTextOf kind spelled a → IsTextOf kind spelled b → a ≡ b

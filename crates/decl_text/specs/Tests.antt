@@ -58,6 +58,15 @@ module _ {P : Type 0} (tests : P → Lexeme → Outcome P → Type 0) where
   abbrev pub IsDecided : Type 0
   IsDecided = (position : P) (lexeme : Lexeme) (a b : Outcome P) → tests position lexeme a → tests position lexeme b → a ≡ b
 
+  -- no token is tested here: the reading is over
+  abbrev pub IsFinal : P → Type 0
+  IsFinal position = (lexeme : Lexeme) (outcome : Outcome P) → ¬ tests position lexeme outcome
+
+  -- where the end of the text passes, it passes again and leaves the position as it is
+  abbrev pub Rests : Type 0
+  Rests = (position next : P) → tests position (record { kind = Finish; text = [] }) (goes next)
+      → tests next (record { kind = Finish; text = [] }) (goes next)
+
 module _ {P : Type 0} (tests : P → Lexeme → Outcome P → Type 0) (bytes : List ℕ) where
   -- the token's tests come to this outcome
   pub record Comes (position : P) (token : Token) (outcome : Outcome P) : Type 0 where

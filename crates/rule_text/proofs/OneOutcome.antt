@@ -10,9 +10,9 @@ use Rattle.rule_core.specs.Mapping.{RuleSet}
 use Rattle.rule_core.specs.Adding.{relations_of}
 use Rattle.decl_text.specs.declared.fault.MappingFault.{MappingFault}
 use Rattle.decl_text.specs.Tokens.{IsNextFault}
-use Rattle.decl_text.specs.Tests.{Lexeme, goes, IsDecided}
+use Rattle.decl_text.specs.Tests.{Lexeme, goes, IsDecided, IsFinal}
 use Rattle.decl_text.proofs.DecidedLemmas.{AtMostOne, Goes-one, Stops-one, When-one, Test-one, Named-one}
-use Rattle.decl_text.proofs.OneOutcome.{IsFinal, leads_once, leads_fails, fails_once}
+use Rattle.decl_text.proofs.OneOutcome.{leads_once, leads_fails, fails_once}
 use Rattle.rule_text.specs.declared.rule.Rule.{Rule}
 use Rattle.rule_text.specs.declared.rule.Rule.TheVariants.{Query}
 use Rattle.rule_text.specs.RuleLine.{Frame, body_of_tgd, head_of_tgd, body_of_egd, disjunct_of, Said, OpenAtom, side_of, nothing_said, IsFirstAt, IsFirstNamed, Located, variable_tests, relation_tests, AreColumns, Disjuncts, after_atom_tests, head_variable_tests, RulePosition, begins, wants_tgd_name, wants_egd_name, wants_query_name, wants_head_parenthesis, wants_head, wants_head_variable, wants_head_comma, wants_colon, wants_atom, wants_parenthesis, wants_argument, wants_comma, after_atom, after_arrow, wants_exists_variable, wants_exists_comma, wants_left, wants_equals, wants_right, wants_line_end, stated, rule_tests, IsRule, FailsRule}
