@@ -62,7 +62,7 @@ module _ (bytes : List ℕ) (rules : RuleSet) (from : ℕ) where
   declaration_fault_once a b f g = fails_once (declaration_tests rules) (declaration_decided rules) bytes from begins a b f g
 
   pub declaration_or_fault : (place : Place) (relation : Relation) (to : ℕ) (fault : MappingFault)
-      → IsDeclaration bytes rules from place relation to → FailsDeclaration bytes rules from fault → IsNextFault bytes to fault
+      → IsDeclaration bytes rules from place relation to → ¬ (FailsDeclaration bytes rules from fault)
   declaration_or_fault place relation to fault h f =
       leads_fails (declaration_tests rules) (declaration_decided rules) bytes from begins to (declared place relation) fault
       (declared_final rules place relation) h f

@@ -10,3 +10,5 @@ pub mod TestLemmas
 pub mod DeclarationLemmas
 pub mod PassLemmas
 pub mod FitLemmas
+pub mod WrittenLemmas
+pub mod PrintedLemmas

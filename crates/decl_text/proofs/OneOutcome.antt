@@ -118,7 +118,7 @@ module _ {P : Type 0} (tests : P → Lexeme → Outcome P → Type 0) (decided :
   -- where the next token fails, no token passes
   pub fails_next_stuck : (from : ℕ) (position next : P) (token : Token) (fault : MappingFault) → FailsNext tests bytes from position fault
       → IsNextToken bytes from token → Comes tests bytes position token (goes next) → ⊥
-  fails_next_stuck from position next token fault (inl own) stands comes = next_apart bytes from token fault stands own
+  fails_next_stuck from position next token fault (inl own) stands comes = next_apart bytes from token fault stands own.1
   fails_next_stuck from position next token fault (inr (other, stands, fails, place)) here comes =
       goes_apart next fault.code (comes_once position token (goes next) (stops fault.code) comes
       (subst (λ t. Comes tests bytes position t (stops fault.code)) (next_token_once bytes from other token stands here) fails))
@@ -126,9 +126,9 @@ module _ {P : Type 0} (tests : P → Lexeme → Outcome P → Type 0) (decided :
   -- where the next token fails, it fails in one way
   pub fails_next_once : (from : ℕ) (position : P) (a b : MappingFault)
       → FailsNext tests bytes from position a → FailsNext tests bytes from position b → a ≡ b
-  fails_next_once from position a b (inl p) (inl q) = next_fault_once bytes from a b p q
-  fails_next_once from position a b (inl p) (inr (token, stands, fails, place)) = absurd (next_apart bytes from token a stands p)
-  fails_next_once from position a b (inr (token, stands, fails, place)) (inl q) = absurd (next_apart bytes from token b stands q)
+  fails_next_once from position a b (inl p) (inl q) = next_fault_once bytes from a b p.1 q.1
+  fails_next_once from position a b (inl p) (inr (token, stands, fails, place)) = absurd (next_apart bytes from token a stands p.1)
+  fails_next_once from position a b (inr (token, stands, fails, place)) (inl q) = absurd (next_apart bytes from token b stands q.1)
   fails_next_once from position a b (inr (t, s, f, p)) (inr (u, r, g, q)) =
       let same = next_token_once bytes from t u s r in
       fault_same a b
@@ -196,13 +196,13 @@ module _ {P : Type 0} (tests : P → Lexeme → Outcome P → Type 0) (decided :
   ]
 
   final_fails : (from : ℕ) (position : P) (fault : MappingFault) → IsFinal tests position → FailsNext tests bytes from position fault
-      → IsNextFault bytes from fault
-  final_fails from position fault final (inl own) = own
-  final_fails from position fault final (inr (token, stands, comes, place)) = absurd (final comes.lexeme (stops fault.code) comes.tested)
+      → ⊥
+  final_fails from position fault final (inl own) = own.0 final
+  final_fails from position fault final (inr (token, stands, comes, place)) = (final comes.lexeme (stops fault.code) comes.tested)
 
-  -- what is read up to a final position fails at most by the token that stands behind it
+  -- what is read up to a final position does not fail
   pub leads_fails : (from : ℕ) (position : P) (to : ℕ) (last : P) (fault : MappingFault) → IsFinal tests last
-      → Leads tests bytes from position to last → Fails tests bytes from position fault → IsNextFault bytes to fault
+      → Leads tests bytes from position to last → Fails tests bytes from position fault → ⊥
   leads_fails from position to last fault final a f = elim (one_goes_on from position a.0 f.good.0 to last f.at f.after a.1 f.good.1) [
     | inl h ↦ final_fails to last fault final
         (let e = final_leads to last f.at f.after final h in fails_there f.at f.after to last fault (sym e.0, sym e.1) f.next)
@@ -284,7 +284,7 @@ module _ {P : Type 0} (tests : P → Lexeme → Outcome P → Type 0) (decided :
     rest_fails : (from : ℕ) (position : P) (fault : MappingFault) → drop from bytes ≡ [] → AtRest position
         → FailsNext tests bytes from position fault → ⊥
     rest_fails from position fault over still (inl own) =
-        next_apart bytes from (record { kind = Finish; start = from; end = from }) fault (end_stands bytes from over) own
+        next_apart bytes from (record { kind = Finish; start = from; end = from }) fault (end_stands bytes from over) own.1
     rest_fails from position fault over still (inr (token, stands, comes, place)) =
         goes_apart position fault.code (sym (rest_comes from position token (stops fault.code) over still stands comes))
 

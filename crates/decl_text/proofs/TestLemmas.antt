@@ -1,5 +1,5 @@
 -- Steps of a line's reading, put together.
-use Rattle.std.proofs.Common.{◌≡◌, ◌≢◌, ◌⊎◌, inl, inr, ℕ, ◌+◌, ◌-◌, ◌≤◌, ◌<◌, true, IsTrue, IsUtf8, All, List, [], ◌∷◌, ◌++◌, length, take, drop, codes, refl, sym, ap, ◌∙◌, subst, arith}
+use Rattle.std.proofs.Common.{◌≡◌, ◌≢◌, inl, inr, ℕ, ◌+◌, ◌-◌, ◌≤◌, ◌<◌, true, IsTrue, IsUtf8, List, [], ◌∷◌, ◌++◌, length, take, drop, refl, sym, ap, ◌∙◌, subst, arith}
 use Rattle.std.proofs.lemmas.List.{length-append, length-drop}
 use Rattle.std.proofs.lemmas.List.Elements.{All-cons, All-weaker}
 use Rattle.std.proofs.lemmas.Bool.Decides.{nat_tests}
@@ -12,8 +12,8 @@ use Rattle.decl_text.specs.declared.fault.Code.{Code}
 use Rattle.decl_text.specs.declared.fault.MappingFault.{MappingFault}
 use Rattle.decl_text.specs.Quotes.{IsQuoted}
 use Rattle.decl_text.specs.Tokens.{is_letter, is_name_byte, IsWord, IsSpelled, IsNextToken, IsNextFault}
-use Rattle.decl_text.specs.Tests.{Lexeme, IsTextOf, Says, Outcome, goes, stops, Comes, Pass, Leads, FailsNext, Fails}
-use Rattle.decl_text.specs.Parts.{StandsNext, FailsAt, IsOther}
+use Rattle.decl_text.specs.Tests.{Lexeme, IsTextOf, Outcome, goes, stops, Pass, Leads, Fails, IsFinal}
+use Rattle.decl_text.specs.Parts.{StandsNext, FailsAt}
 use Rattle.decl_text.proofs.ScanLemmas.{token_bytes}
 
 module _ {P : Type 0} (tests : P → Lexeme → Outcome P → Type 0) (bytes : List ℕ) where
@@ -47,8 +47,10 @@ module _ {P : Type 0} (tests : P → Lexeme → Outcome P → Type 0) (bytes : L
     next = f.next;
   }
 
-  pub Fails-own : (from : ℕ) (position : P) (fault : MappingFault) → IsNextFault bytes from fault → Fails tests bytes from position fault
-  Fails-own from position fault own = record { at = from; after = position; good = Leads-none from position; next = inl own }
+  pub Fails-own : (from : ℕ) (position : P) → ¬ (IsFinal tests position) → (fault : MappingFault) → IsNextFault bytes from fault
+      → Fails tests bytes from position fault
+  Fails-own from position wanted fault own =
+      record { at = from; after = position; good = Leads-none from position; next = inl (wanted, own) }
 
   pub Fails-token : (from : ℕ) (position : P) (token : Token) (lexeme : Lexeme) (code : Code) → StandsNext bytes from token lexeme
       → tests position lexeme (stops code) → Fails tests bytes from position (record { code = code; place = token.start })
@@ -59,11 +61,11 @@ module _ {P : Type 0} (tests : P → Lexeme → Outcome P → Type 0) (bytes : L
     next = inr (token, stands.next, record { lexeme = lexeme; says = stands.says; tested = fails }, refl);
   }
 
-  pub Fails-at : (from : ℕ) (position : P) (IsBad : Lexeme → Code → Type 0) (fault : MappingFault)
+  pub Fails-at : (from : ℕ) (position : P) → ¬ (IsFinal tests position) → (IsBad : Lexeme → Code → Type 0) (fault : MappingFault)
       → ((lexeme : Lexeme) (code : Code) → IsBad lexeme code → tests position lexeme (stops code))
       → FailsAt bytes from IsBad fault → Fails tests bytes from position fault
-  Fails-at from position IsBad fault each (inl own) = Fails-own from position fault own
-  Fails-at from position IsBad fault each (inr (token, lexeme, stands, bad, place)) = record {
+  Fails-at from position wanted IsBad fault each (inl own) = Fails-own from position wanted fault own
+  Fails-at from position wanted IsBad fault each (inr (token, lexeme, stands, bad, place)) = record {
     at = from;
     after = position;
     good = Leads-none from position;

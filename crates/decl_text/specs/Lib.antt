@@ -5,4 +5,4 @@ pub mod Tests
 pub mod TokenList
 pub mod Parts
 pub mod Declaration
-pub mod Columns
+pub mod Canonical

@@ -1,5 +1,5 @@
 -- The next token with its text, and what a line's reader says of one that isn't what it wants.
-use Rattle.std.specs.Prelude.{◌≡◌, ◌≢◌, ◌⊎◌, ℕ, ◌<◌, ◌≤◌, List, codes, length}
+use Rattle.std.specs.Prelude.{◌≡◌, ◌≢◌, ◌⊎◌, ℕ, ◌<◌, List, codes, length}
 use Rattle.decl_text.specs.declared.token.Kind.{Kind}
 use Rattle.decl_text.specs.declared.token.Kind.TheVariants.{Name}
 use Rattle.decl_text.specs.declared.token.Token.{Token}

@@ -95,9 +95,9 @@ module _ {P : Type 0} (tests : P → Lexeme → Outcome P → Type 0) (bytes : L
     pub kind : finish.kind ≡ Finish
     pub comes : Comes before finish (goes last)
 
-  -- the next token has a fault of its own, or fails a test
+  -- a token is wanted, and the next one has a fault of its own; or it fails a test
   abbrev pub FailsNext : ℕ → P → MappingFault → Type 0
-  FailsNext from position fault = IsNextFault bytes from fault
+  FailsNext from position fault = (¬ (IsFinal tests position) × IsNextFault bytes from fault)
       ⊎ ((token : Token) × IsNextToken bytes from token × Comes position token (stops fault.code) × (fault.place ≡ token.start))
 
   -- the first fault: the tokens before it pass, and the next one fails

@@ -4,7 +4,7 @@ use Rattle.decl_text.specs.declared.token.Kind.TheVariants.{Quoted, Finish}
 use Rattle.decl_text.specs.declared.token.Token.{Token}
 use Rattle.decl_text.specs.declared.fault.MappingFault.{MappingFault}
 use Rattle.decl_text.specs.Tokens.{IsNextToken, IsNextFault}
-use Rattle.decl_text.specs.Tests.{Lexeme, Says}
+use Rattle.decl_text.specs.Tests.{Says}
 
 -- from this place on, the bytes have these tokens, each where the one before ends; the last is Finish, or a fault stands next
 abbrev pub AreTokens : List ℕ → ℕ → List Token → Option MappingFault → Type 0

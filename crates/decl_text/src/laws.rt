@@ -1,6 +1,11 @@
-//! Laws of the definitions: what stands next is one thing, and quoted texts are read back.
+//! Laws of the definitions: what stands next is one thing, and texts in quotes and declarations are read back.
 
 ghost use Rattle.std.specs.Prelude.{◌≡◌, ◌+◌, ℕ, List, ◌++◌, length, Contains, Option};
+ghost use Rattle.rule_core.specs.declared.rules.Place.{Place as PlaceValue};
+ghost use Rattle.rule_core.specs.declared.rules.Relation.{Relation as RelationValue};
+ghost use Rattle.rule_core.specs.Mapping.{RuleSet};
+ghost use Rattle.rule_core.specs.Adding.{with_relation};
+ghost use Rattle.rule_core.specs.Validity.{IsValid};
 ghost use Rattle.decl_text.specs.declared.token.Kind.TheVariants as kinds;
 ghost use Rattle.decl_text.specs.declared.token.Token.{Token as TokenValue};
 ghost use Rattle.decl_text.specs.declared.fault.MappingFault.{MappingFault as FaultValue};
@@ -9,11 +14,7 @@ ghost use Rattle.decl_text.specs.Tokens.{IsNextToken, IsNextFault};
 ghost use Rattle.decl_text.specs.TokenList.{AreTokens};
 ghost use Rattle.decl_text.specs.Tests.{IsDecided, Says, Pass};
 ghost use Rattle.decl_text.specs.Declaration.{begins, declared, declaration_tests, IsDeclaration, FailsDeclaration};
-ghost use Rattle.rule_core.specs.declared.rules.Place.{Place as PlaceValue};
-ghost use Rattle.rule_core.specs.declared.rules.Relation.{Relation as RelationValue};
-ghost use Rattle.rule_core.specs.Mapping.{RuleSet};
-ghost use Rattle.rule_core.specs.Validity.{IsValid};
-ghost use Rattle.rule_core.specs.Adding.{with_relation};
+ghost use Rattle.decl_text.specs.Canonical.{declaration_text};
 
 /// From a place on, no two tokens stand next, no two faults, and not a token and a fault: so what
 /// `next_token` answers is all that the definitions allow.
@@ -50,7 +51,7 @@ pub fn quoted_texts_are_read_back()
 {}
 
 /// From a place on, at most one declaration stands, and it ends at one place; a line has one first
-/// fault; and where a declaration stands, only the token behind it can be at fault.
+/// fault; and not both.
 pub fn a_declaration_is_one()
     ensures decided { (rules : RuleSet) → IsDecided (declaration_tests rules) }
     ensures one { (bytes : List ℕ) (rules : RuleSet) (from : ℕ) (place other : PlaceValue)
@@ -58,10 +59,10 @@ pub fn a_declaration_is_one()
         → IsDeclaration bytes rules from other b end → (place ≡ other) × (a ≡ b) × (to ≡ end) }
     ensures fault { (bytes : List ℕ) (rules : RuleSet) (from : ℕ) (a b : FaultValue)
         → FailsDeclaration bytes rules from a → FailsDeclaration bytes rules from b → a ≡ b }
-    ensures behind { (bytes : List ℕ) (rules : RuleSet) (from : ℕ) (place : PlaceValue)
+    ensures apart { (bytes : List ℕ) (rules : RuleSet) (from : ℕ) (place : PlaceValue)
         → (relation : RelationValue) (to : ℕ) (fault : FaultValue)
-        → IsDeclaration bytes rules from place relation to → FailsDeclaration bytes rules from fault
-        → IsNextFault bytes to fault }
+        → IsDeclaration bytes rules from place relation to
+        → ¬ (FailsDeclaration bytes rules from fault) }
 {}
 
 /// A relation whose declaration is read from a line fits the mapping before it.
@@ -79,4 +80,13 @@ pub fn declarations_quote_nothing()
         → Pass (declaration_tests rules) bytes from begins tokens to (declared place relation)
         → (token : TokenValue) (text : List ℕ) → Contains tokens token
         → ¬ (Says bytes token (record { kind = kinds.Quoted; text = text })) }
+{}
+
+/// A canonical line is read as the declaration from which it was printed, wherever it stands, where the
+/// relation may be added.
+pub fn declarations_are_read_back()
+    ensures { (before rest : List ℕ) (rules : RuleSet) (place : PlaceValue) (relation : RelationValue)
+        → IsValid (with_relation rules place relation)
+        → IsDeclaration (before ++ (declaration_text place relation ++ rest)) rules (length before) place relation
+        (length before + length (declaration_text place relation)) }
 {}

@@ -132,6 +132,6 @@ module _ (bytes : List ℕ) (rules : RuleSet) (pool : List (List ℕ)) (from : �
   rule_fault_once a b f g = fails_once (rule_tests rules pool) (rule_decided rules pool) bytes from begins a b f g
 
   pub rule_or_fault : (rule : Rule) (to : ℕ) (fault : MappingFault)
-      → IsRule bytes rules pool from rule to → FailsRule bytes rules pool from fault → IsNextFault bytes to fault
+      → IsRule bytes rules pool from rule to → ¬ (FailsRule bytes rules pool from fault)
   rule_or_fault rule to fault h f =
       leads_fails (rule_tests rules pool) (rule_decided rules pool) bytes from begins to (stated rule) fault (stated_final rules pool rule) h f

@@ -3,7 +3,6 @@
 
 ghost use Rattle.std.specs.Prelude.{◌≡◌, ◌↔◌, ℕ, ◌≤◌, List, length, Some, slice_get};
 ghost use Rattle.decl_text.specs.declared.fault.MappingFault.{MappingFault as FaultValue};
-ghost use Rattle.decl_text.specs.Tokens.{IsNextFault};
 ghost use Rattle.decl_text.specs.Tests.{IsDecided, Pass};
 ghost use Rattle.decl_text.specs.declared.token.Token.{Token as TokenValue};
 ghost use Rattle.term_core.specs.declared.const_id.ConstId.{ConstId};
@@ -15,7 +14,7 @@ ghost use Rattle.rule_text.specs.Constants.{HasConstant, NeedsText, IsQuotedAmon
 ghost use Rattle.rule_text.specs.RuleLine.{begins, stated, rule_tests, IsRule, FailsRule};
 
 /// From a place on, at most one rule is stated, and its line ends at one place; a line has one first
-/// fault; and where a rule is stated, only the token behind it can be at fault.
+/// fault; and not both.
 pub fn a_rule_is_one()
     ensures decided { (rules : RuleSet) (pool : List (List ℕ)) → IsDecided (rule_tests rules pool) }
     ensures one { (bytes : List ℕ) (rules : RuleSet) (pool : List (List ℕ)) (from : ℕ) (a b : RuleValue)
@@ -23,9 +22,9 @@ pub fn a_rule_is_one()
         → (a ≡ b) × (to ≡ end) }
     ensures fault { (bytes : List ℕ) (rules : RuleSet) (pool : List (List ℕ)) (from : ℕ) (a b : FaultValue)
         → FailsRule bytes rules pool from a → FailsRule bytes rules pool from b → a ≡ b }
-    ensures behind { (bytes : List ℕ) (rules : RuleSet) (pool : List (List ℕ)) (from : ℕ) (rule : RuleValue)
+    ensures apart { (bytes : List ℕ) (rules : RuleSet) (pool : List (List ℕ)) (from : ℕ) (rule : RuleValue)
         → (to : ℕ) (fault : FaultValue) → IsRule bytes rules pool from rule to
-        → FailsRule bytes rules pool from fault → IsNextFault bytes to fault }
+        → ¬ (FailsRule bytes rules pool from fault) }
 {}
 
 /// A rule that is read from a line fits the mapping before it.

@@ -10,5 +10,5 @@ returns-clause-one c = declaration_once
 pub returns-clause-fault : goal.returns-clause-fault
 returns-clause-fault c = declaration_fault_once
 
-pub returns-clause-behind : goal.returns-clause-behind
-returns-clause-behind c = declaration_or_fault
+pub returns-clause-apart : goal.returns-clause-apart
+returns-clause-apart c = declaration_or_fault

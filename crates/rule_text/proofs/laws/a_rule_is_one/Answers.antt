@@ -10,5 +10,5 @@ returns-clause-one c = rule_once
 pub returns-clause-fault : goal.returns-clause-fault
 returns-clause-fault c = rule_fault_once
 
-pub returns-clause-behind : goal.returns-clause-behind
-returns-clause-behind c = rule_or_fault
+pub returns-clause-apart : goal.returns-clause-apart
+returns-clause-apart c = rule_or_fault
