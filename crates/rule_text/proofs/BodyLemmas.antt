@@ -1,10 +1,9 @@
 -- What holds of the atoms and variables of a line as far as they are said, with one more of either.
-use Rattle.std.proofs.Common.{◌≡◌, ◌≢◌, ◌⊎◌, ⊎_elim, ℕ, zero, suc, ◌+◌, ◌<◌, ◌≤◌, List, [], ◌∷◌, ◌++◌, length, get_or, append_assoc, Some, All, Contains, refl, sym, ap, ◌∙◌, subst, arith}
+use Rattle.std.proofs.Common.{◌≡◌, ⊎_elim, ℕ, zero, suc, ◌+◌, ◌<◌, ◌≤◌, List, [], ◌∷◌, ◌++◌, length, append_assoc, All, Contains, refl, sym, ap, ◌∙◌, subst, arith}
 use Rattle.std.specs.Prelude.{slice_get, slice_index_or, IsSomeAnd}
-use Rattle.std.specs.List.{AllZip}
 use Rattle.std.proofs.lemmas.Bool.{cases_lt}
-use Rattle.std.proofs.lemmas.List.{append-nil, length_push, length-append}
-use Rattle.std.proofs.lemmas.List.Elements.{All-nil, All-push, All-weaker, Contains-get_or}
+use Rattle.std.proofs.lemmas.List.{append-nil, length_push}
+use Rattle.std.proofs.lemmas.List.Elements.{All-nil, All-push}
 use Rattle.std.proofs.lemmas.Option.{slice_get_within, get_or_from_slice_get}
 use Rattle.std.proofs.Math.ListN.{get_or-append}
 use Rattle.term_core.specs.declared.const_id.ConstId.{ConstId}
@@ -12,12 +11,11 @@ use Rattle.rule_core.specs.declared.rules.Relation.{Relation}
 use Rattle.rule_core.specs.declared.rules.Arg.{Arg}
 use Rattle.rule_core.specs.declared.rules.Arg.TheVariants.{Var, Const}
 use Rattle.rule_core.specs.declared.rules.Atom.{Atom}
-use Rattle.rule_core.specs.declared.rules.Branch.{Branch}
 use Rattle.rule_core.specs.Names.{IsName}
 use Rattle.rule_core.specs.Validity.{AreNumbered, variables_in, occurrences, IsWithin, FitsRelation, AreAtoms, AreVariables, IsBranch}
 use Rattle.rule_core.proofs.NumberingLemmas.{numbered_none, numbered_old, numbered_new, variables_in-append, occurrences-append}
-use Rattle.decl_text.proofs.FitLemmas.{AreNames, no_names, names_more}
-use Rattle.rule_text.specs.RuleLine.{Said, nothing_said, OpenAtom, with_argument, with_atom, with_variable, IsFirstAt, AreColumns}
+use Rattle.decl_text.proofs.FitLemmas.{no_names, names_more}
+use Rattle.rule_text.specs.RuleLine.{Said, nothing_said, OpenAtom, with_atom, with_variable, IsFirstAt, AreColumns}
 
 pub first_within : (names : List (List ℕ)) (name : List ℕ) (place : ℕ) → IsFirstAt names name place → place < length names
 first_within names name place first = slice_get_within names place name first.there
@@ -28,8 +26,12 @@ pub first_of_new : (names : List (List ℕ)) (name : List ℕ) (place : ℕ) →
 first_of_new names name place new first =
     let within = first_within (names ++ name ∷ []) name place first in
     ⊎_elim
-    (λ lt. absurd (new (place, lt, sym (get_or-append names (name ∷ []) name place lt)
-    ∙ get_or_from_slice_get (names ++ name ∷ []) place name name first.there)))
+    (λ lt. absurd (new (
+      place,
+      lt,
+      sym (get_or-append names (name ∷ []) name place lt)
+          ∙ get_or_from_slice_get (names ++ name ∷ []) place name name first.there,
+    )))
     (λ ge. omega (arith, ge, within, length_push names name))
     (cases_lt place (length names))
 

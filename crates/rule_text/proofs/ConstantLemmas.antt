@@ -1,5 +1,5 @@
 -- The texts in quotes of a rule's line are the texts of its constants.
-use Rattle.std.proofs.Common.{◌≡◌, ◌≢◌, ◌⊎◌, ◌↔◌, inl, inr, ℕ, ◌≤◌, List, [], ◌∷◌, ◌++◌, length, append_assoc, codes, Some, Contains, refl, sym, ap, ◌∙◌, subst, arith}
+use Rattle.std.proofs.Common.{◌≡◌, ◌≢◌, ◌⊎◌, ◌↔◌, inl, inr, ℕ, ◌≤◌, List, [], ◌∷◌, ◌++◌, length, append_assoc, codes, Some, Contains, refl, sym, ap, ◌∙◌, subst}
 use Rattle.std.specs.Prelude.{slice_get, flat_map}
 use Rattle.std.proofs.lemmas.List.{append-nil}
 use Rattle.std.proofs.lemmas.Grind.{flat_map-append}
@@ -392,8 +392,8 @@ module _ (rules : RuleSet) (pool : List (List ℕ)) where
     | inr later ↦ elim q.2 [
       | inl other ↦ quoted_constant bytes ts constants other.1 token text later says
       | inr more ↦
-        let found = quoted_constant bytes ts more.1.1 more.1.4 token text later says in
-        (found.0, subst (λ l. Contains l found.0) (sym more.1.2) (Contains-cons more.1.0 found.0 more.1.1 found.1), found.2)
+          let found = quoted_constant bytes ts more.1.1 more.1.4 token text later says in
+          (found.0, subst (λ l. Contains l found.0) (sym more.1.2) (Contains-cons more.1.0 found.0 more.1.1 found.1), found.2)
     ]
   ]
 
@@ -404,8 +404,8 @@ module _ (rules : RuleSet) (pool : List (List ℕ)) where
   constant_quoted bytes [] constants q c there = absurd (Contains-nil c (subst (λ l. Contains l c) q there))
   constant_quoted bytes (t ∷ ts) constants q c there = elim q.2 [
     | inl other ↦
-      let found = constant_quoted bytes ts constants other.1 c there in
-      (found.0, found.1, Contains-cons t found.0 ts found.2, found.3, found.4)
+        let found = constant_quoted bytes ts constants other.1 c there in
+        (found.0, found.1, Contains-cons t found.0 ts found.2, found.3, found.4)
     | inr more ↦ elim (Contains-cons_cases more.1.0 c more.1.1 (subst (λ l. Contains l c) more.1.2 there)) [
       | inl same ↦ (
         t,
@@ -415,8 +415,8 @@ module _ (rules : RuleSet) (pool : List (List ℕ)) where
         subst (λ d. HasText d q.0.text) same more.1.3,
       )
       | inr later ↦
-        let found = constant_quoted bytes ts more.1.1 more.1.4 c later in
-        (found.0, found.1, Contains-cons t found.0 ts found.2, found.3, found.4)
+          let found = constant_quoted bytes ts more.1.1 more.1.4 c later in
+          (found.0, found.1, Contains-cons t found.0 ts found.2, found.3, found.4)
     ]
   ]
 
@@ -432,8 +432,8 @@ module _ (rules : RuleSet) (pool : List (List ℕ)) where
     rule_texts text = (
       λ q. let found = quoted_constant bytes tokens (constants_of rule) rule_quotes q.0 text q.1 q.2 in (found.0, found.1, found.2.there),
       λ n. let found = constant_quoted bytes tokens (constants_of rule) rule_quotes n.0 n.1 in
-      let same : found.1 ≡ text = same_Some found.1 text (sym found.4.there ∙ n.2) in
-      (found.0, found.2, subst (λ t. Says bytes found.0 (record { kind = Quoted; text = t })) same found.3),
+          let same : found.1 ≡ text = same_Some found.1 text (sym found.4.there ∙ n.2) in
+          (found.0, found.2, subst (λ t. Says bytes found.0 (record { kind = Quoted; text = t })) same found.3),
     )
 
     pub rule_texts_short : (text : List ℕ) → IsQuotedAmong bytes tokens text → length text ≤ 4096

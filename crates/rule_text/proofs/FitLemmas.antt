@@ -1,6 +1,6 @@
 -- A rule that is read from a line is valid in the mapping before it: what holds after each of its tokens.
-use Rattle.std.proofs.Common.{◌≡◌, ◌≢◌, ◌⊎◌, inl, inr, ℕ, ◌<◌, ◌≤◌, List, [], ◌∷◌, ◌++◌, length, codes, All, Contains, refl, sym, subst, arith}
-use Rattle.std.specs.Prelude.{slice_get, IsSomeAnd}
+use Rattle.std.proofs.Common.{◌≡◌, ◌≢◌, inl, inr, ℕ, ◌<◌, ◌≤◌, List, [], ◌∷◌, ◌++◌, length, All, refl, sym, subst, arith}
+use Rattle.std.specs.Prelude.{IsSomeAnd}
 use Rattle.std.proofs.lemmas.List.{length_push}
 use Rattle.std.proofs.lemmas.List.Elements.{All-nil, All-push}
 use Rattle.rule_core.specs.declared.rules.Arg.{Arg}
@@ -18,7 +18,7 @@ use Rattle.decl_text.proofs.FitLemmas.{AreNames, no_names, names_more}
 use Rattle.rule_text.specs.declared.rule.Rule.{Rule}
 use Rattle.rule_text.specs.declared.rule.Rule.TheVariants.{Tgd, Egd, Query}
 use Rattle.rule_text.specs.Adding.{with_rule}
-use Rattle.rule_text.specs.RuleLine.{Frame, body_of_tgd, head_of_tgd, body_of_egd, disjunct_of, side_of, Said, nothing_said, OpenAtom, with_argument, with_atom, with_variable, IsFirstAt, Located, variable_tests, relation_tests, AreColumns, Disjuncts, after_atom_tests, head_variable_tests, RulePosition, begins, wants_tgd_name, wants_egd_name, wants_query_name, wants_head_parenthesis, wants_head, wants_head_variable, wants_head_comma, wants_colon, wants_atom, wants_parenthesis, wants_argument, wants_comma, after_atom, after_arrow, wants_exists_variable, wants_exists_comma, wants_left, wants_equals, wants_right, wants_line_end, stated, rule_tests, IsRule}
+use Rattle.rule_text.specs.RuleLine.{Frame, body_of_tgd, head_of_tgd, body_of_egd, disjunct_of, side_of, Said, nothing_said, OpenAtom, with_argument, with_atom, with_variable, IsFirstAt, Located, variable_tests, relation_tests, after_atom_tests, head_variable_tests, RulePosition, begins, wants_tgd_name, wants_egd_name, wants_query_name, wants_head_parenthesis, wants_head, wants_head_variable, wants_head_comma, wants_colon, wants_atom, wants_parenthesis, wants_argument, wants_comma, after_atom, after_arrow, wants_exists_variable, wants_exists_comma, wants_left, wants_equals, wants_right, wants_line_end, stated, rule_tests, IsRule}
 use Rattle.rule_text.proofs.BodyLemmas.{first_within, variables_more, FitsWidth, BodyFits, body_none, body_known, body_new, body_constant, body_closed, body_atoms, body_numbered, HeadFits, head_none, head_argument, head_closed, head_atoms, branch_fits}
 
 module _ (rules : RuleSet) where
