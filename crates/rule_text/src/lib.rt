@@ -1,6 +1,8 @@
 //! Tgds, egds and queries as text, both ways: each line of them, or its first fault.
 #![tactic(auto)]
 
+mod printing;
 mod rule;
 
+pub use printing::print_rule;
 pub use rule::Rule;
