@@ -1,6 +1,7 @@
 //! Tgds, egds and queries as text, both ways: each line of them, or its first fault.
 #![tactic(auto)]
 
+pub mod laws;
 mod printing;
 mod rule;
 
