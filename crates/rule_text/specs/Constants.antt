@@ -1,5 +1,5 @@
--- The constants of a rule, in the order in which its line says them.
-use Rattle.std.specs.Prelude.{◌≡◌, ℕ, List, [], ◌∷◌, ◌++◌, flat_map, Contains, Some, slice_get}
+-- The constants of a rule, in the order in which its line says them, and their texts.
+use Rattle.std.specs.Prelude.{◌≡◌, ℕ, List, [], ◌∷◌, ◌++◌, flat_map, Contains, Some, slice_get, All, IsSomeAnd, ⊤}
 use Rattle.term_core.specs.declared.const_id.ConstId.{ConstId}
 use Rattle.rule_core.specs.declared.rules.Arg.{Arg}
 use Rattle.rule_core.specs.declared.rules.Arg.TheVariants.{Var, Const}
@@ -37,3 +37,19 @@ NeedsText pool rule text = (c : ConstId) × HasConstant rule c × (slice_get poo
 -- the text stands in quotes among the tokens
 abbrev pub IsQuotedAmong : List ℕ → List Token → List ℕ → Type 0
 IsQuotedAmong bytes tokens text = (token : Token) × Contains tokens token × Says bytes token (record { kind = Quoted; text = text })
+
+module _ (pool : List (List ℕ)) (IsSuch : List ℕ → Type 0) where
+  -- a constant has a text in the pool, and it is such a text
+  abbrev pub IsTextual : Arg → Type 0
+  IsTextual (Var v) = ⊤
+  IsTextual (Const c) = IsSomeAnd (slice_get pool c.0) IsSuch
+
+  -- and so each constant of atoms
+  abbrev pub AreTextual : List Atom → Type 0
+  AreTextual atoms = All (λ atom. All IsTextual atom.args) atoms
+
+  -- and so each constant of a rule
+  abbrev pub HasTexts : Rule → Type 0
+  HasTexts (Tgd tgd) = AreTextual tgd.body × AreTextual tgd.head
+  HasTexts (Egd egd) = AreTextual egd.body
+  HasTexts (Query query) = All (λ branch. AreTextual branch.body) query.branches

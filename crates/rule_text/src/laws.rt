@@ -1,16 +1,18 @@
 //! Laws of the definitions: a line states one rule, which fits, or has one first fault; a rule's constants
-//! are the texts in its quotes.
+//! are the texts in its quotes; and rules are read back.
 
-ghost use Rattle.std.specs.Prelude.{◌≡◌, ◌↔◌, ℕ, ◌≤◌, List, length, Some, slice_get};
+ghost use Rattle.std.specs.Prelude.{◌≡◌, ◌↔◌, ◌+◌, ℕ, ◌≤◌, List, ◌++◌, length, Some, slice_get, All, IsUtf8};
 ghost use Rattle.decl_text.specs.declared.fault.MappingFault.{MappingFault as FaultValue};
 ghost use Rattle.decl_text.specs.Tests.{IsDecided, Pass};
 ghost use Rattle.decl_text.specs.declared.token.Token.{Token as TokenValue};
+ghost use Rattle.term_core.specs.Pool.{IsPool};
 ghost use Rattle.term_core.specs.declared.const_id.ConstId.{ConstId};
 ghost use Rattle.rule_core.specs.Mapping.{RuleSet};
 ghost use Rattle.rule_core.specs.Validity.{IsValid};
 ghost use Rattle.rule_text.specs.declared.rule.Rule.{Rule as RuleValue};
 ghost use Rattle.rule_text.specs.Adding.{with_rule};
-ghost use Rattle.rule_text.specs.Constants.{HasConstant, NeedsText, IsQuotedAmong};
+ghost use Rattle.rule_text.specs.Canonical.{rule_text};
+ghost use Rattle.rule_text.specs.Constants.{HasConstant, NeedsText, IsQuotedAmong, HasTexts};
 ghost use Rattle.rule_text.specs.RuleLine.{begins, stated, rule_tests, IsRule, FailsRule};
 
 /// From a place on, at most one rule is stated, and its line ends at one place; a line has one first
@@ -49,4 +51,14 @@ pub fn constants_are_the_quoted_texts()
         → (tokens : List TokenValue) (to : ℕ)
         → Pass (rule_tests rules pool) bytes from begins tokens to (stated rule)
         → (c : ConstId) → HasConstant rule c → (text : List ℕ) × (slice_get pool c.0 ≡ Some text) }
+{}
+
+/// A canonical line is read as the rule from which it was printed, wherever it stands, where the rule
+/// may be added and each of its constants has a text that is not too long.
+pub fn rules_are_read_back()
+    ensures { (before rest : List ℕ) (rules : RuleSet) (pool : List (List ℕ)) (rule : RuleValue)
+        → IsValid (with_rule rules rule) → IsPool pool → All IsUtf8 pool
+        → HasTexts pool (λ text. length text ≤ 4096) rule
+        → IsRule (before ++ (rule_text rules pool rule ++ rest)) rules pool (length before) rule
+        (length before + length (rule_text rules pool rule)) }
 {}

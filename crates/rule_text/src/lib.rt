@@ -2,8 +2,10 @@
 #![tactic(auto)]
 
 pub mod laws;
+mod printing;
 mod reading;
 mod rule;
 
+pub use printing::print_rule;
 pub use reading::read_rule;
 pub use rule::Rule;
