@@ -8,3 +8,4 @@ pub mod TestLemmas
 pub mod DeclarationLemmas
 pub mod WrittenLemmas
 pub mod PrintedLemmas
+mod CanonicalFacts

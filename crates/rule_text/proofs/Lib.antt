@@ -5,3 +5,4 @@ pub mod AtomLemmas
 pub mod TgdLemmas
 pub mod EgdLemmas
 pub mod QueryLemmas
+mod CanonicalFacts
