@@ -12,3 +12,4 @@ pub mod PassLemmas
 pub mod FitLemmas
 pub mod WrittenLemmas
 pub mod PrintedLemmas
+mod CanonicalFacts

@@ -10,3 +10,4 @@ pub mod AtomLemmas
 pub mod TgdLemmas
 pub mod EgdLemmas
 pub mod QueryLemmas
+mod CanonicalFacts
