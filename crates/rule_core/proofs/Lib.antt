@@ -9,6 +9,8 @@ pub mod TableLemmas
 pub mod ValidityLemmas
 pub mod RebaseLemmas
 pub mod FrontierLemmas
+pub mod FiringLemmas
 pub mod NumberingLemmas
 mod DefinitionFacts
 mod WorkedFacts
+mod FiringFacts

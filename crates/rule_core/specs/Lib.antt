@@ -13,3 +13,4 @@ pub mod Adding
 pub mod Frontier
 pub mod Copy
 pub mod Rebase
+pub mod Firing

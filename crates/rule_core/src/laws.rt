@@ -5,6 +5,9 @@ ghost use Rattle.std.specs.declared.cmp.Ordering.TheVariants.{Equal};
 ghost use Rattle.std.specs.Cmp.{IsTotalOrder};
 ghost use Rattle.std.specs.Cmp.Lexicographic.{slice_cmp};
 ghost use Rattle.term_core.specs.declared.const_id.ConstId.{ConstId};
+ghost use Rattle.rule_core.specs.declared.rules.Tgd.{Tgd};
+ghost use Rattle.rule_core.specs.Frontier.{IsFrontier};
+ghost use Rattle.rule_core.specs.Firing.{frontier_of};
 ghost use Rattle.rule_core.specs.Copy.{IsFull, OnlyCopies, IsSafe, IsImage, IsCopied, AreCopied};
 ghost use Rattle.rule_core.specs.Validity.{IsValid};
 ghost use Rattle.rule_core.specs.Tables.{facts_of, as_terms};
@@ -98,4 +101,11 @@ pub fn copied_rows_are_as_wide_as_their_relation()
         → (sources : List (List (StampedOf (List (List ℕ))))) (relation : ℕ) (row : List (List ℕ)) (t : ℤ)
         → IsCopied name rules.tgds sources relation row t
         → IsSomeAnd (slice_get rules.targets relation) (λ r. length row ≡ length r.columns) }
+{}
+
+/// The frontier of a tgd is one list: its computed form is the only one of exactly the body's variables that occur
+/// in the head, ascending.
+pub fn a_tgd_has_one_frontier()
+    ensures computed { (tgd : Tgd) → IsFrontier tgd (frontier_of tgd) }
+    ensures only { (tgd : Tgd) (variables : List ℕ) → IsFrontier tgd variables → variables ≡ frontier_of tgd }
 {}
