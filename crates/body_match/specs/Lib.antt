@@ -1,0 +1,4 @@
+pub mod Matches
+pub mod Snapshots
+pub mod Places
+pub mod Search
