@@ -1,0 +1,5 @@
+pub mod RecordsLemmas
+pub mod TableLemmas
+pub mod WriterLemmas
+pub mod StoredLemmas
+pub mod StoredFacts
