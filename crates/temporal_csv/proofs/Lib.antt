@@ -3,3 +3,4 @@ pub mod TableLemmas
 pub mod WriterLemmas
 pub mod StoredLemmas
 pub mod StoredFacts
+pub mod OutcomeLemmas

@@ -193,7 +193,7 @@ digits-or-not (c ∷ cs) = elim (digit-or-not c) [
   | inr none ↦ inr (λ h. none h.0)
 ]
 
-positive-or-not : (cs : List ℕ) → IsPositive cs ⊎ ¬ IsPositive cs
+pub positive-or-not : (cs : List ℕ) → IsPositive cs ⊎ ¬ IsPositive cs
 positive-or-not [] = inr (λ h. h)
 positive-or-not (c ∷ cs) = elim (digits-or-not (c ∷ cs)) [
   | inl all ↦ elim (cases_lt c 49) [

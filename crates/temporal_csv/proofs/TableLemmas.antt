@@ -24,11 +24,11 @@ use Rattle.temporal_csv.specs.TableReader.{HasRead}
 use Rattle.temporal_csv.proofs.RecordsLemmas.{table-records, table-rest}
 
 -- the fields of a record
-abbrev Fields : Type 0
+abbrev pub Fields : Type 0
 Fields = List (List ℕ)
 
 -- a row of texts over a span
-abbrev RowFact : Type 0
+abbrev pub RowFact : Type 0
 RowFact = StampedOf (List (List ℕ))
 
 -- two more items than n end a list

@@ -1,6 +1,6 @@
 //! What the definitions of source tables and of stored tables give.
 
-ghost use Rattle.std.specs.Prelude.{◌≡◌, ◌<◌, ℕ, List, All, length, map};
+ghost use Rattle.std.specs.Prelude.{◌≡◌, ◌⊎◌, ◌<◌, ℕ, List, All, length, map};
 ghost use Rattle.rule_core.specs.Terms.{StampedOf, TermOf};
 ghost use Rattle.temporal_csv.specs.Stored.{BeginsWithLetter, IsAsWideAs, IsCell, IsStorableRow, IsStored, StoredRow, bare_row, stamped_row, table_text};
 ghost use Rattle.temporal_csv.specs.Table.{IsFirstFault, IsTable, TableFaults};
@@ -8,9 +8,14 @@ ghost use Rattle.temporal_csv.specs.declared.fault.TableFault.{TableFault};
 
 use time_line::laws::{end_texts_read_back, one_end_a_text};
 
-/// No table has both facts and a fault: which of its two answers `read_table` gives is the table's own doing.
+/// Each table has facts or a first fault, and none has both: which of its two answers `read_table` gives is the table's
+/// own doing.
 pub fn a_table_has_facts_or_a_fault()
-    ensures { (columns : List (List ℕ)) (bytes : List ℕ) (facts : List (StampedOf (List (List ℕ))))
+    ensures either { (columns : List (List ℕ)) (bytes : List ℕ)
+        → ((facts : List (StampedOf (List (List ℕ)))) × IsTable columns bytes facts)
+        ⊎ TableFaults columns bytes }
+    ensures not_both { (columns : List (List ℕ)) (bytes : List ℕ)
+        (facts : List (StampedOf (List (List ℕ))))
         → IsTable columns bytes facts → ¬ TableFaults columns bytes }
 {
     one_end_a_text();
@@ -18,7 +23,8 @@ pub fn a_table_has_facts_or_a_fault()
 
 /// A table has one list of facts, so that `read_table` has one answer.
 pub fn a_table_has_one_list_of_facts()
-    ensures { (columns : List (List ℕ)) (bytes : List ℕ) (a b : List (StampedOf (List (List ℕ))))
+    ensures { (columns : List (List ℕ)) (bytes : List ℕ)
+        (a b : List (StampedOf (List (List ℕ))))
         → IsTable columns bytes a → IsTable columns bytes b → a ≡ b }
 {
     one_end_a_text();
