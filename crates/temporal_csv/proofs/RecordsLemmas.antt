@@ -1,7 +1,7 @@
 -- The records of a text, as `csv` states them: there is one list of them, and any records that were reached begin it.
 use Rattle.std.proofs.Common.{◌≡◌, ℕ, suc, zero, ◌≤◌, Bool, true, false, List, [], ◌∷◌, ◌++◌, length, Option, Some, None, refl, sym, ap, inl, subst, ◌∙◌, arith}
 use Rattle.csv.specs.Machine.{Read, next_record, step, is_end, ends_at_end}
-use Rattle.csv.specs.Reading.{Reached, AreRecords, Ready, ReadRecord, default_config, reader_state, reader_trim, strip_bom, took_first}
+use Rattle.csv.specs.Reading.{Reached, AreRecords, Ready, ReadRecord, default_config, is_flexible, reader_state, reader_trim, strip_bom, took_first}
 use Rattle.csv.specs.declared.parser.Config.{Config}
 use Rattle.csv.specs.declared.parser.State.{State}
 use Rattle.csv.specs.declared.parser.State.TheVariants as st
@@ -108,10 +108,18 @@ left_of s = Some s.now
 -- what a read of a reader for the bytes of a table says of its records
 pub continues : (old new : Reader (Bor (List ℕ))) (found : Bool) (fields : List (List ℕ))
     → (reader_trim old ≡ trim.None → Ready old → ReadRecord left_of old new found fields)
-    → (reader_trim old ≡ trim.None → took_first new ≡ true) → Continues old new found fields
-continues old new true fields reads first = λ bytes records h.
+    → (reader_trim old ≡ trim.None → took_first new ≡ true) → is_flexible new ≡ is_flexible old → Continues old new found fields
+continues old new true fields reads first flexible = λ bytes records h.
     let r = reads h.trims h.ready in
     let m = rows-more left_of old new fields default_config st.StartRecord (strip_bom bytes) h.rest records h.config h.source h.reached r in
-    record { trims = r.3 ∙ h.trims; ready = inl (first h.trims); config = r.2 ∙ h.config; rest = m.0; source = m.1; reached = m.2 }
-continues old new false fields reads first = λ bytes records h.
+    record {
+      trims = r.3 ∙ h.trims;
+      ready = inl (first h.trims);
+      flexible = flexible ∙ h.flexible;
+      config = r.2 ∙ h.config;
+      rest = m.0;
+      source = m.1;
+      reached = m.2;
+    }
+continues old new false fields reads first flexible = λ bytes records h.
     (reader_state old, h.rest, h.reached, rows-end left_of old new fields default_config h.rest h.config h.source (reads h.trims h.ready))

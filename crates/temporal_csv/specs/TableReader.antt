@@ -1,16 +1,17 @@
 -- How far a reader of `csv` has come in the bytes of a table. No public clause cites this module.
 use Rattle.std.specs.Prelude.{◌≡◌, ℕ, Bool, true, false, List, [], ◌∷◌, ◌++◌, Some}
 use Rattle.std.specs.Borrow.{Bor}
-use Rattle.csv.specs.Reading.{Reached, Ready, default_config, reader_config, reader_state, reader_trim, source_of, strip_bom}
+use Rattle.csv.specs.Reading.{Reached, Ready, default_config, is_flexible, reader_config, reader_state, reader_trim, source_of, strip_bom}
 use Rattle.csv.specs.declared.parser.State.TheVariants as st
 use Rattle.csv.specs.declared.reader.Reader.{Reader}
 use Rattle.csv.specs.declared.reader.Trim.TheVariants as trim
 use Rattle.temporal_csv.specs.Records.{AreRecordsOf}
 
--- the reader has read these records of the bytes, in their order, and goes on behind them
+-- the reader has read these records of the bytes, in their order, and goes on behind them; it compares no lengths
 pub record HasRead (bytes : List ℕ) (records : List (List (List ℕ))) (reader : Reader (Bor (List ℕ))) : Type 0 where
   pub trims : reader_trim reader ≡ trim.None
   pub ready : Ready reader
+  pub flexible : is_flexible reader ≡ true
   pub config : reader_config reader ≡ default_config
   pub rest : List ℕ
   pub source : source_of (λ (s : Bor (List ℕ)). Some s.now) reader ≡ Some rest

@@ -50,7 +50,8 @@ fn open(alloc: Global, bytes: &[u8]) -> Reader<&[u8]>
         .from_reader(alloc, bytes)
 }
 
-// Reads the next record, and says whether there was one.
+// Reads the next record, and says whether there was one. No lengths are compared and a slice is always read, so that
+// only memory can be wanting.
 fn next_record(reader: &mut Reader<&[u8]>, fields: &mut ByteRecord) -> Result<bool, Memory>
     ensures { IfOk result (λ found. Continues reader.old reader.new found (fields_of fields.new)) }
 {

@@ -11,6 +11,7 @@ returns c =
     record {
       trims = rw (f, h) at r.trim ∙ c.new.ensures.trim;
       ready = inr (inr (rw (f, h) at r.has_headers, r.headers));
+      flexible = rw f at r.flexible;
       config = rw (f, h) at r.config ∙ c.new.ensures.config;
       rest = strip_bom c.args.bytes.now;
       source = r.source;
