@@ -1,0 +1,6 @@
+pub mod Records
+pub mod Cells
+pub mod Stored
+pub mod Table
+pub mod TableReader
+pub mod TableWriter
