@@ -1,5 +1,5 @@
 -- Two worked examples of exchange, held against the definitions.
-use Rattle.std.proofs.Common.{◌≡◌, ◌⊎◌, ℕ, zero, suc, ◌<◌, ◌==◌, cond, ℤ, pos, ◌≤ℤ◌, ◌<ℤ◌, Option, Some, None, List, [], ◌∷◌, get_or}
+use Rattle.std.proofs.Common.{◌≡◌, ◌⊎◌, ◌↔◌, ℕ, zero, suc, ◌<◌, ◌==◌, cond, ℤ, pos, ◌≤ℤ◌, ◌<ℤ◌, Option, Some, None, List, [], ◌∷◌, map, get_or}
 use Rattle.std.proofs.Common.{refl, sym, ap, ◌∙◌, subst, inl, inr, arith, codes, AllPairs, Contains}
 use Rattle.std.specs.declared.cmp.Ordering.{Ordering}
 use Rattle.std.specs.declared.cmp.Ordering.TheVariants.{Less}
@@ -11,6 +11,7 @@ use Rattle.term_core.specs.declared.const_id.ConstId.{ConstId}
 use Rattle.time_line.specs.Span.{Has, HasInstant}
 use Rattle.rule_core.specs.declared.rules.Relation.{Relation}
 use Rattle.rule_core.specs.declared.rules.Arg.TheVariants.{Var}
+use Rattle.rule_core.specs.declared.rules.Atom.{Atom}
 use Rattle.rule_core.specs.declared.rules.Tgd.{Tgd}
 use Rattle.rule_core.specs.declared.rules.Egd.{Egd}
 use Rattle.rule_core.specs.Terms.{numbered, TermOf, constant, unknown, FactOf, StampedOf}
@@ -21,17 +22,25 @@ use Rattle.rule_core.specs.Homomorphism.{fact_image, Homomorphism}
 use Rattle.rule_core.specs.Solution.{TgdHolds, EgdHolds, IsSolution, IsUniversal, HasSolution}
 use Rattle.rule_core.specs.Coalesced.{Covers, AreSeparate, stamped_cmp, IsCoalesced}
 use Rattle.rule_core.specs.Tables.{facts_of, as_terms}
-use Rattle.rule_core.specs.Copy.{IsCopy, CopiedRow, atom_of}
+use Rattle.rule_core.specs.Copy.{CopiedRow, IsCopied, AreCopied, table_at}
 use Rattle.rule_core.proofs.ListLemmas.{Contains-nil, Contains-head, Contains-cons_cases}
-use Rattle.rule_core.proofs.TableLemmas.{copied_table_is_universal}
+use Rattle.rule_core.proofs.CopyLemmas.{IsCopy, All-one, the_one}
+use Rattle.rule_core.proofs.TableLemmas.{copied_tables_are_universal}
 
 abbrev row : List ℕ → ℤ → ℤ → StampedOf (List (List ℕ))
 row text lo hi = record { row = text ∷ []; span = record { lo = Some lo; hi = Some hi } }
 
 -- The first run: a mapping that copies A(x) to B(x), for
 --     a,1,3; a,3,5; b,-inf,2      which gives      a,1,5; b,-inf,2
+-- the atom of a side's first relation with these variables
+abbrev atom_of : List ℕ → Atom
+atom_of variables = record { relation = 0; args = map Var variables }
+
+abbrev first_of_x : Atom
+first_of_x = atom_of (0 ∷ [])
+
 abbrev copy_rule : Tgd
-copy_rule = record { name = codes "t"; vars = codes "x" ∷ []; body_vars = 1; body = atom_of (0 ∷ []) ∷ []; head = atom_of (0 ∷ []) ∷ [] }
+copy_rule = record { name = codes "t"; vars = codes "x" ∷ []; body_vars = 1; body = first_of_x ∷ []; head = first_of_x ∷ [] }
 
 abbrev relation : List ℕ → List (List ℕ) → Relation
 relation name columns = record { name = name; columns = columns }
@@ -45,20 +54,25 @@ copying = record {
   queries = [];
 }
 
-copying_copies : IsCopy copying (atom_of (0 ∷ [])) (atom_of (0 ∷ []))
-copying_copies = record {
-  tgd = copy_rule;
-  tgds = refl;
-  egds = refl;
-  body = refl;
-  head = refl;
-  first = λ v c. by v (Contains-cons_cases (Var 0) (Var v) [] c);
-  safe = λ v c. c;
-}
+copying_copies : IsCopy 1 copy_rule
+copying_copies = (
+  first_of_x,
+  first_of_x,
+  record {
+    body = refl;
+    head = refl;
+    inside = omega arith;
+    first = λ v c. by v (Contains-cons_cases (Var 0) (Var v) [] c);
+    safe = λ v c. c;
+  },
+)
   where
     by : (v : ℕ) → (Var 0 ≡ Var v) ⊎ Contains [] (Var v) → v < 1
     by v (inl e) = let same : 0 ≡ v = cc in omega arith
     by v (inr c) = absurd (Contains-nil (Var v) c)
+
+abbrev any_name : ConstId → List ℕ
+any_name id = []
 
 abbrev early_b : StampedOf (List (List ℕ))
 early_b = record { row = codes "b" ∷ []; span = record { lo = None; hi = Some (pos 2) } }
@@ -70,7 +84,7 @@ abbrev target : List (StampedOf (List (List ℕ)))
 target = row (codes "a") (pos 1) (pos 5) ∷ early_b ∷ []
 
 -- the target covers what is copied
-target_is_copied : (r : List (List ℕ)) (t : ℤ) → Covers target r t → CopiedRow (0 ∷ []) (0 ∷ []) source r t
+target_is_copied : (r : List (List ℕ)) (t : ℤ) → Covers target r t → CopiedRow any_name first_of_x first_of_x source r t
 target_is_copied r t c = elim (Contains-cons_cases (row (codes "a") (pos 1) (pos 5)) c.1 (early_b ∷ []) (c.0, c.2, c.3)) [
   | inl e ↦
       let h = subst (λ (z : StampedOf (List (List ℕ))). Has z.span t) (sym e) c.4.1 in
@@ -89,7 +103,7 @@ target_is_copied r t c = elim (Contains-cons_cases (row (codes "a") (pos 1) (pos
   ]
 ]
 
-copied_is_target : (r : List (List ℕ)) (t : ℤ) → CopiedRow (0 ∷ []) (0 ∷ []) source r t → Covers target r t
+copied_is_target : (r : List (List ℕ)) (t : ℤ) → CopiedRow any_name first_of_x first_of_x source r t → Covers target r t
 copied_is_target r t copied = elim
     (Contains-cons_cases (row (codes "a") (pos 1) (pos 3)) entry (row (codes "a") (pos 3) (pos 5) ∷ early_b ∷ []) found) [
       | inl e ↦
@@ -122,11 +136,33 @@ copied_is_target r t copied = elim
     entry_is : (z : StampedOf (List (List ℕ))) → z ≡ entry → z.row ≡ r
     entry_is z e = ap (λ (y : StampedOf (List (List ℕ))). y.row) e ∙ copied.1.4.0 ∙ copied.2
 
+-- the target's table covers exactly what the one rule copies
+target_of_copies : AreCopied any_name copying (source ∷ []) (target ∷ [])
+target_of_copies = record { size = refl; each = each }
+  where
+    each : (relation : ℕ) → relation < 1 → (r : List (List ℕ)) (t : ℤ)
+        → Covers (table_at (target ∷ []) relation) r t ↔ IsCopied any_name (copy_rule ∷ []) (source ∷ []) relation r t
+    each zero inside r t = (
+      λ c. (0, copy_rule, omega arith, refl, (first_of_x, first_of_x, refl, refl, refl, target_is_copied r t c)),
+      λ rule. copied_is_target r t (given rule),
+    )
+      where
+        given : IsCopied any_name (copy_rule ∷ []) (source ∷ []) 0 r t → CopiedRow any_name first_of_x first_of_x source r t
+        given rule =
+            let is : copy_rule ≡ rule.1 = the_one copy_rule rule.1 (copy_rule ∷ []) refl (rule.0, rule.2, rule.3) in
+            let body : first_of_x ∷ [] ≡ rule.4.0 ∷ [] = ap (λ (g : Tgd). g.body) is ∙ rule.4.2 in
+            let head : first_of_x ∷ [] ≡ rule.4.1 ∷ [] = ap (λ (g : Tgd). g.head) is ∙ rule.4.3 in
+            let from : first_of_x ≡ rule.4.0 = cc in
+            let to : first_of_x ≡ rule.4.1 = cc in
+            subst (λ (a : Atom). CopiedRow any_name first_of_x a source r t) (sym to)
+            (subst (λ (a : Atom). CopiedRow any_name a rule.4.1 (table_at (source ∷ []) a.relation) r t) (sym from) rule.4.5)
+    each (suc k) inside r t = absurd (omega arith)
+
 -- at every instant the target is universal
-first_run : (name : ConstId → List ℕ) (t : ℤ)
-    → IsUniversal name copying (snapshot_at (facts_of (as_terms source ∷ [])) t) (snapshot_at (facts_of (as_terms target ∷ [])) t)
-first_run name t = copied_table_is_universal name [] copying (0 ∷ []) (0 ∷ []) copying_copies source target t
-    (λ r. (target_is_copied r t, copied_is_target r t))
+first_run : (t : ℤ)
+    → IsUniversal any_name copying (snapshot_at (facts_of (as_terms source ∷ [])) t) (snapshot_at (facts_of (as_terms target ∷ [])) t)
+first_run t = copied_tables_are_universal any_name [] copying refl (All-one (IsCopy 1) copy_rule (copy_rule ∷ []) refl copying_copies)
+    (source ∷ []) (target ∷ []) target_of_copies t
 
 abbrev texts : List (List ℕ) → List (List ℕ) → Ordering
 texts = slice_cmp (slice_cmp nat_cmp)

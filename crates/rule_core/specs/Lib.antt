@@ -6,10 +6,10 @@ pub mod Match
 pub mod Homomorphism
 pub mod Solution
 pub mod Coalesced
-pub mod Copy
 pub mod Tables
 pub mod Names
 pub mod Validity
 pub mod Adding
 pub mod Frontier
+pub mod Copy
 pub mod Rebase

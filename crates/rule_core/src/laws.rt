@@ -1,12 +1,12 @@
 //! What the definitions of the field give.
-ghost use Rattle.std.specs.Prelude.{◌≡◌, ◌↔◌, ℤ, ℕ, List, [], ◌∷◌, Contains};
+ghost use Rattle.std.specs.Prelude.{◌≡◌, ◌↔◌, ℤ, ℕ, List, [], length, map, All, Contains, IsSomeAnd, slice_get};
 ghost use Rattle.std.specs.Ordering.{nat_cmp};
 ghost use Rattle.std.specs.declared.cmp.Ordering.TheVariants.{Equal};
 ghost use Rattle.std.specs.Cmp.{IsTotalOrder};
 ghost use Rattle.std.specs.Cmp.Lexicographic.{slice_cmp};
 ghost use Rattle.term_core.specs.declared.const_id.ConstId.{ConstId};
-ghost use Rattle.rule_core.specs.declared.rules.Atom.{Atom};
-ghost use Rattle.rule_core.specs.Copy.{IsCopy, Copied, CopiedRow, atom_of};
+ghost use Rattle.rule_core.specs.Copy.{IsFull, OnlyCopies, IsSafe, IsImage, IsCopied, AreCopied};
+ghost use Rattle.rule_core.specs.Validity.{IsValid};
 ghost use Rattle.rule_core.specs.Tables.{facts_of, as_terms};
 ghost use Rattle.rule_core.specs.Terms.{TermOf, FactOf, StampedOf};
 ghost use Rattle.rule_core.specs.Order.{stored_cmp};
@@ -63,28 +63,39 @@ pub fn solutions_below_a_universal_one_are_universal()
         → Homomorphism (Contains target) least → IsUniversal name rules source target }
 {}
 
-/// Where a mapping copies, a target of exactly the copied facts is universal.
-pub fn copied_facts_are_universal()
-    ensures { (name : ConstId → List ℕ) (rules : RuleSet) (from to : Atom) → IsCopy rules from to
-        → (source target : List (FactOf (List ℕ)))
-        → ((fact : FactOf (List ℕ)) → Contains target fact ↔ Copied name from to source fact)
+/// Where every tgd is full and there is no egd, a target of exactly the images of the heads, under the bindings that
+/// match the bodies, is universal.
+pub fn images_of_full_tgds_are_universal()
+    ensures { (name : ConstId → List ℕ) (rules : RuleSet) → IsValid rules → All IsFull rules.tgds
+        → rules.egds ≡ [] → (source target : List (FactOf (List ℕ)))
+        → ((fact : FactOf (List ℕ)) → Contains target fact ↔ IsImage name rules.tgds source fact)
         → IsUniversal name rules source target }
 {}
 
 /// Where a mapping copies, every source has a solution at every instant.
 pub fn copying_mappings_have_solutions()
-    ensures { (name : ConstId → List ℕ) (rules : RuleSet) (from to : Atom) → IsCopy rules from to
+    ensures { (name : ConstId → List ℕ) (rules : RuleSet) → IsValid rules → OnlyCopies rules
         → (source : List (StampedOf (FactOf (List ℕ)))) → HasSolution name rules source }
 {}
 
-/// Where a mapping from one relation to another copies, a target table that covers exactly the copied rows
-/// is universal at every instant.
+/// Where a mapping copies, each variable of a head is in its body, so that the body's row gives the head's.
+pub fn copying_rules_are_safe()
+    ensures { (rules : RuleSet) → IsValid rules → OnlyCopies rules → All IsSafe rules.tgds }
+{}
+
+/// Where a mapping copies, target tables that cover exactly the copied rows are universal at every instant.
 pub fn copied_tables_are_universal()
-    ensures { (name : ConstId → List ℕ) (rules : RuleSet) (body head : List ℕ)
-        → IsCopy rules (atom_of body) (atom_of head)
-        → (source target : List (StampedOf (List (List ℕ))))
-        → ((row : List (List ℕ)) (t : ℤ) → Covers target row t ↔ CopiedRow body head source row t)
-        → (t : ℤ) → IsUniversal name rules
-        (snapshot_at (facts_of (as_terms source ∷ [])) t)
-        (snapshot_at (facts_of (as_terms target ∷ [])) t) }
+    ensures { (name : ConstId → List ℕ) (rules : RuleSet) → IsValid rules → OnlyCopies rules
+        → (sources targets : List (List (StampedOf (List (List ℕ)))))
+        → AreCopied name rules sources targets → (t : ℤ) → IsUniversal name rules
+        (snapshot_at (facts_of (map as_terms sources)) t)
+        (snapshot_at (facts_of (map as_terms targets)) t) }
+{}
+
+/// A copied row has a cell for each column of its relation.
+pub fn copied_rows_are_as_wide_as_their_relation()
+    ensures { (name : ConstId → List ℕ) (rules : RuleSet) → IsValid rules
+        → (sources : List (List (StampedOf (List (List ℕ))))) (relation : ℕ) (row : List (List ℕ)) (t : ℤ)
+        → IsCopied name rules.tgds sources relation row t
+        → IsSomeAnd (slice_get rules.targets relation) (λ r. length row ≡ length r.columns) }
 {}
