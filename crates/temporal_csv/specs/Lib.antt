@@ -1,0 +1,5 @@
+pub mod Records
+pub mod Cells
+pub mod Stored
+pub mod Table
+pub mod TableReader

@@ -1,0 +1,23 @@
+//! The rows of a stored table.
+
+use crate::cell::Cell;
+use std::marker::Model;
+use term_core::Items;
+use time_line::Span;
+
+/// A row that is stored: its cells, and the span over which it holds, where the table has spans.
+#[derive(Debug, Drop)]
+pub struct OutRow {
+    pub cells: Items<Cell>,
+    pub span: Option<Span>,
+}
+
+impl Model for OutRow {
+    ghost use Rattle.std.specs.Prelude.{map};
+    ghost use Rattle.temporal_csv.specs.Cells.{term_of};
+    ghost use Rattle.temporal_csv.specs.Stored.{StoredRow};
+
+    ghost Value = { StoredRow };
+
+    ghost view = { λ r. record { cells = map term_of r.cells; span = r.span } };
+}
