@@ -1,5 +1,5 @@
 -- The bytes of a row give its cells back, and compare as the cells do.
-use Rattle.std.proofs.Common.{◌≡◌, ℕ, ◌+◌, ◌-◌, ◌<◌, ◌≤◌, Bool, true, false, List, [], ◌∷◌, ◌++◌, refl, sym, ◌∙◌, ap, arith, append_assoc, append-nil, ⊎_elim, nat_eq, nat_le, ◌&&◌, ◌||◌, length, take, drop, get_or, ◌≢◌, length-drop, get_or-drop}
+use Rattle.std.proofs.Common.{◌≡◌, ℕ, ◌+◌, ◌-◌, ◌<◌, ◌≤◌, Bool, true, false, List, [], ◌∷◌, ◌++◌, refl, sym, ◌∙◌, ap, subst, arith, append_assoc, append-nil, ⊎_elim, nat_eq, nat_le, ◌&&◌, ◌||◌, length, take, drop, get_or, ◌≢◌, length-drop, get_or-drop}
 use Rattle.std.proofs.lemmas.Bool.Decides.{nat_tests}
 use Rattle.std.proofs.lemmas.Bool.{cases_lt}
 use Rattle.std.specs.declared.cmp.Ordering.{Ordering}
@@ -10,6 +10,8 @@ use Rattle.std.specs.List.{list_all, list_any}
 use Rattle.std.specs.Bool.{Decides}
 use Rattle.std.specs.Cmp.{IsTotalOrder}
 use Rattle.std.specs.Cmp.Lexicographic.{slice_cmp, pointwise, pointwise_decides, bytes_decides, lists_ties, lists_total, nat_list_cmp_total, texts_ties}
+use Rattle.std.specs.Prelude.{All, Contains, IsUtf8}
+use Rattle.std.proofs.lemmas.List.Elements.{All-contains, Contains-append_left, Contains-push}
 use Rattle.exchange_cli.specs.RowKey.{byte_key, bytes_key, row_key, bytes_after, cells_after, cells_of}
 
 -- ---- a byte
@@ -266,6 +268,17 @@ module _ (key : List ℕ) (start at : ℕ) (order : start ≤ at) (within : at <
         ∙ ap (λ cells. fields ++ cells) (sym (cells_after-more read (get_or key at 0) rest positive))
         ∙ ap (λ bytes. fields ++ cells_after read bytes) (sym (drop_more key at 0 within))
         ∙ told
+
+-- a cell that was read to its end is text
+module _ (key : List ℕ) (start at : ℕ) (order : start ≤ at) (within : at < length key) (texts : List (List ℕ))
+    (told : texts ++ cells_after (take (at - start) (drop start key)) (drop at key) ≡ cells_of key) where
+  pub cell_is_text : get_or key at 0 ≡ 0 → All IsUtf8 (cells_of key) → IsUtf8 (bytes_after false (take (at - start) (drop start key)))
+  cell_is_text zero all =
+      let cell = bytes_after false (take (at - start) (drop start key)) in
+      let rest = cells_after (take (at + 1 - (at + 1)) (drop (at + 1) key)) (drop (at + 1) key) in
+      let there = Contains-append_left (texts ++ cell ∷ []) rest cell (Contains-push texts cell) in
+      All-contains IsUtf8 (cells_of key) cell all
+      (subst (λ (cells : List (List ℕ)). Contains cells cell) (at_end key start at order within texts told zero) there)
 
 -- ---- equal rows
 

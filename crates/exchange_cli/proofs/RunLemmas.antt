@@ -1,9 +1,9 @@
 -- How the steps of a run make its ending.
-use Rattle.std.proofs.Common.{ℕ, ◌≤◌, List, refl, arith, IfSome}
+use Rattle.std.proofs.Common.{ℕ, ◌≤◌, List, refl, IfSome}
 use Rattle.std.specs.declared.option.Option.{Option}
 use Rattle.std.specs.declared.option.Option.TheVariants.{None, Some}
 use Rattle.shelf_core.specs.Held.{Held}
-use Rattle.shelf_core.specs.Faults.{Rises}
+use Rattle.shelf_core.proofs.FaultLemmas.{then_rises}
 use Rattle.exchange_cli.specs.Words.{Exchange, AreExchange}
 use Rattle.exchange_cli.specs.Target.{Inputs, AreSolvedFiles}
 use Rattle.exchange_cli.specs.Work.{Reads}
@@ -11,7 +11,7 @@ use Rattle.exchange_cli.specs.Run.{Device, device, moment, Delivers, Solves, Cau
 use Rattle.exchange_cli.specs.Steps.{Keeps, StopsEarly}
 use Rattle.exchange_cli.specs.declared.file.FileOut.{FileOut}
 use Rattle.exchange_cli.specs.declared.ending.Ending.{Ending}
-use Rattle.exchange_cli.specs.declared.ending.Ending.TheVariants.{Done, Words, Missing, TooLong, NotBuilt, Table, Read, Write, Output, Memory}
+use Rattle.exchange_cli.specs.declared.ending.Ending.TheVariants.{Done, Words, Missing, TooLong, Mapping, NotBuilt, Table, Read, Write, Output, Memory}
 
 -- a run that stops before the first store ends so
 pub stops_early : (words : List (List ℕ)) (before after : Device Held) (out : Device (List ℕ)) (command : Exchange) (ending : Ending)
@@ -19,18 +19,15 @@ pub stops_early : (words : List (List ℕ)) (before after : Device Held) (out : 
     (moment after out) ending
 stops_early words before after out command (Missing name) spelled keeps stops = ((command, spelled, stops), (keeps.same, refl))
 stops_early words before after out command (TooLong name) spelled keeps stops = ((command, spelled, stops), (keeps.same, refl))
+stops_early words before after out command (Mapping fault) spelled keeps stops = ((command, spelled, stops), (keeps.same, refl))
 stops_early words before after out command NotBuilt spelled keeps stops = ((command, spelled, stops), (keeps.same, refl))
-stops_early words before after out command (Table name) spelled keeps stops = ((command, spelled, stops), (keeps.same, refl))
+stops_early words before after out command (Table name fault) spelled keeps stops = ((command, spelled, stops), (keeps.same, refl))
 stops_early words before after out command (Read name) spelled keeps stops = ((command, spelled, stops.0), (keeps.same, refl), stops.1)
 stops_early words before after out command Memory spelled keeps stops = (command, spelled, (keeps.same, refl))
 stops_early words before after out command Done spelled keeps stops = absurd stops
 stops_early words before after out command Words spelled keeps stops = absurd stops
 stops_early words before after out command (Write name) spelled keeps stops = absurd stops
 stops_early words before after out command Output spelled keeps stops = absurd stops
-
--- a count that rose after a moment rose since the moments before it
-pub rises_since : (before middle after : ℕ) → before ≤ middle → middle ≤ after → Rises middle after → Rises before after
-rises_since before middle after first second rose = grind arith
 
 -- what is read and solved, where the shelf tells what it holds
 pub solves : (words : List (List ℕ)) (content : Option Held) (faults : ℕ) (out : Device (List ℕ)) (command : Exchange)
@@ -47,13 +44,14 @@ pub finishes : (words : List (List ℕ)) (before middle after : Device Held) (ou
     → Delivers (moment middle out) (moment after printed) files ending → Causes words (moment before out) (moment after printed) ending
 finishes words before middle after out printed files Done solved keeps later done = (files, solved, rw keeps.same at done)
 finishes words before middle after out printed files (Write name) solved keeps later done =
-    (files, solved, ((rw keeps.same at done.0), done.1, rises_since before.faults middle.faults after.faults keeps.later later done.2))
+    (files, solved, ((rw keeps.same at done.0), done.1, then_rises before.faults middle.faults after.faults keeps.later later done.2))
 finishes words before middle after out printed files Output solved keeps later done =
     (files, solved, (rw keeps.same at done.0, done.1, done.2))
 finishes words before middle after out printed files Words solved keeps later done = absurd done
 finishes words before middle after out printed files (Missing name) solved keeps later done = absurd done
 finishes words before middle after out printed files (TooLong name) solved keeps later done = absurd done
+finishes words before middle after out printed files (Mapping fault) solved keeps later done = absurd done
 finishes words before middle after out printed files NotBuilt solved keeps later done = absurd done
-finishes words before middle after out printed files (Table name) solved keeps later done = absurd done
+finishes words before middle after out printed files (Table name fault) solved keeps later done = absurd done
 finishes words before middle after out printed files (Read name) solved keeps later done = absurd done
 finishes words before middle after out printed files Memory solved keeps later done = absurd done

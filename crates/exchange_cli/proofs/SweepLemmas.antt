@@ -16,7 +16,7 @@ use Rattle.time_line.specs.Span.{Ends, IsFrom, IsBefore, Has, HasInstant, AreApa
 use Rattle.rule_core.specs.Terms.{StampedOf}
 use Rattle.rule_core.specs.Coalesced.{Covers, stamped_cmp, AreSeparate, IsCoalesced}
 use Rattle.rule_core.proofs.CoalescedLemmas.{stamped_cmp-total}
-use Rattle.rule_core.proofs.ListLemmas.{Contains-head, Contains-cons, Contains-cons_cases, Contains-nil, AllPairs-head, AllPairs-tail}
+use Rattle.exchange_cli.proofs.ListLemmas.{Contains-head, Contains-cons, Contains-cons_cases, Contains-nil, AllPairs-head, AllPairs-tail}
 
 -- ---- two spans
 

@@ -1,27 +1,48 @@
--- What a rule that copies makes of a row: one atom on each side, whose arguments are variables.
-use Rattle.std.specs.Prelude.{◌≡◌, ◌⊎◌, ℕ, ◌<◌, ◌==◌, List, [], ◌∷◌, ◌++◌, map, length, slice_index, slice_index_or}
+-- What a rule that copies makes of a fact. No public clause cites this module.
+use Rattle.std.specs.Prelude.{◌≡◌, ◌⊎◌, ◌↔◌, ◌==◌, Bool, false, ℕ, ℤ, List, [], ◌∷◌, ◌++◌, map, slice_index_or}
 use Rattle.std.specs.List.{position_or_len}
+use Rattle.term_core.specs.declared.const_id.ConstId.{ConstId}
+use Rattle.rule_core.specs.declared.rules.Arg.{Arg}
+use Rattle.rule_core.specs.declared.rules.Arg.TheVariants.{Var, Const}
 use Rattle.rule_core.specs.Terms.{StampedOf}
+use Rattle.rule_core.specs.Coalesced.{Covers}
+use Rattle.rule_core.specs.Copy.{content}
 
--- some values of the variables are the row at the body's variables, and the image at the head's
-abbrev pub Copies : {C : Type 0} → List ℕ → List ℕ → List C → List C → Type 0
-Copies {C} body head row image = (value : ℕ → C) × (map value body ≡ row) × (map value head ≡ image)
+-- the rows of a table of constants, with their spans
+abbrev pub Rows : Type 0
+Rows = List (StampedOf (List (List ℕ)))
 
--- the first place of a variable, or the number of variables where it is none of them
-abbrev pub place_of : List ℕ → ℕ → ℕ
-place_of variables v = position_or_len (λ x. x == v) variables
+-- the argument is this variable
+abbrev pub is_variable : ℕ → Arg → Bool
+is_variable v (Var w) = w == v
+is_variable v (Const c) = false
+
+-- the first place of a variable among arguments, or their number where it is none of them
+abbrev pub place_of : List Arg → ℕ → ℕ
+place_of args v = position_or_len (λ arg. is_variable v arg) args
 
 -- the cell at a place, or an empty one behind the last
 abbrev pub cell_at : List (List ℕ) → ℕ → List ℕ
 cell_at row place = slice_index_or row place []
 
--- each cell is the same as the one at the place that is given for it
-abbrev pub Agree : List ℕ → List (List ℕ) → Type 0
-Agree places row = (k : ℕ) → k < length places → cell_at row k ≡ cell_at row (slice_index places k)
+-- the text that a row gives a variable of an atom: that at its first place
+abbrev pub given : List Arg → List (List ℕ) → ℕ → List ℕ
+given body row v = cell_at row (place_of body v)
 
--- the image of the fact's row at the end of the rows where its cells agree, and else the same rows
-abbrev pub AddsImage : List ℕ → List ℕ → StampedOf (List (List ℕ))
-    → List (StampedOf (List (List ℕ))) → List (StampedOf (List (List ℕ))) → Type 0
-AddsImage firsts places fact old new =
-    (Agree firsts fact.row × (new ≡ old ++ record { row = map (cell_at fact.row) places; span = fact.span } ∷ []))
-    ⊎ (¬ (Agree firsts fact.row) × (new ≡ old))
+-- what arguments are, where the row gives the variables of the body their texts
+abbrev pub image_of : (ConstId → List ℕ) → List Arg → List (List ℕ) → List Arg → List (List ℕ)
+image_of name body row args = map (content name (given body row)) args
+
+-- the row is what the body is, by the texts that the row itself gives: equal variables have equal cells, and each constant its own
+abbrev pub Fits : (ConstId → List ℕ) → List Arg → List (List ℕ) → Type 0
+Fits name body row = image_of name body row body ≡ row
+
+-- the head's image at the end of the rows where the fact's row fits the body, and else the same rows
+abbrev pub AddsImage : (ConstId → List ℕ) → List Arg → List Arg → StampedOf (List (List ℕ)) → Rows → Rows → Type 0
+AddsImage name body head fact old new =
+    (Fits name body fact.row × (new ≡ old ++ record { row = image_of name body fact.row head; span = fact.span } ∷ []))
+    ⊎ (¬ (Fits name body fact.row) × (new ≡ old))
+
+-- the new rows cover what the old ones cover, and what is said of a row and an instant
+abbrev pub AddsCover : (List (List ℕ) → ℤ → Type 0) → Rows → Rows → Type 0
+AddsCover said old new = (row : List (List ℕ)) (t : ℤ) → Covers new row t ↔ (Covers old row t ⊎ said row t)

@@ -1,7 +1,8 @@
 -- The status and the line of each ending.
 use Rattle.std.specs.Prelude.{ℕ, List, [], ◌∷◌, ◌++◌, codes}
 use Rattle.exchange_cli.specs.declared.ending.Ending.{Ending}
-use Rattle.exchange_cli.specs.declared.ending.Ending.TheVariants.{Done, Words, Missing, TooLong, NotBuilt, Table, Read, Write, Output, Memory}
+use Rattle.exchange_cli.specs.declared.ending.Ending.TheVariants.{Done, Words, Missing, TooLong, Mapping, NotBuilt, Table, Read, Write, Output, Memory}
+use Rattle.exchange_cli.specs.FaultTexts.{mapping_fault, table_fault}
 
 -- the answer of the program
 abbrev pub status_of : Ending → ℕ
@@ -9,8 +10,9 @@ status_of Done = 0
 status_of Words = 5
 status_of (Missing name) = 1
 status_of (TooLong name) = 1
+status_of (Mapping fault) = 1
 status_of NotBuilt = 1
-status_of (Table name) = 1
+status_of (Table name fault) = 1
 status_of (Read name) = 3
 status_of (Write name) = 3
 status_of Output = 3
@@ -26,8 +28,9 @@ line_of Done = []
 line_of Words = line (codes "refused: words")
 line_of (Missing name) = line (codes "refused: missing " ++ name)
 line_of (TooLong name) = line (codes "refused: too long " ++ name)
+line_of (Mapping fault) = line (codes "refused: mapping " ++ mapping_fault fault)
 line_of NotBuilt = line (codes "refused: not built")
-line_of (Table name) = line (codes "refused: table " ++ name)
+line_of (Table name fault) = line (codes "refused: table " ++ name ++ codes " " ++ table_fault fault)
 line_of (Read name) = line (codes "fault: read " ++ name)
 line_of (Write name) = line (codes "fault: write " ++ name)
 line_of Output = line (codes "fault: output")

@@ -29,7 +29,7 @@ WordsClause words status = (status ≡ 5) ↔ ((command : Exchange) → ¬ (AreE
 abbrev pub StatusClause : List (List ℕ) → Moment → Moment → ℕ → Type 0
 StatusClause words before after status =
     (command : Exchange) (held : Held) (inputs : Inputs) → IsUnhindered words before after status command held inputs
-    → (status ≡ 0) ↔ HasSolution (name_of inputs) inputs.rules (source_of inputs)
+    → (status ≡ 0) ↔ HasSolution (name_of inputs) inputs.mapping.rules (source_of inputs)
 
 -- after 0 the shelf holds what it held, with exactly the files of the solved exchange set: the target's tables are
 -- coalesced, and at every instant they are a solution that maps into every solution

@@ -1,5 +1,5 @@
 -- How the cells of a row lie in one piece of bytes. No public clause cites this module.
-use Rattle.std.specs.Prelude.{ℕ, ◌+◌, ◌-◌, ◌==◌, nat_lt, if◌then◌else◌, Bool, true, false, List, [], ◌∷◌, ◌++◌}
+use Rattle.std.specs.Prelude.{◌≡◌, ℕ, ◌+◌, ◌-◌, ◌==◌, nat_lt, if◌then◌else◌, Bool, true, false, List, [], ◌∷◌, ◌++◌, All, IsUtf8}
 
 -- a byte of a cell: 0 and 1 are written as 1 1 and 1 2, so that no byte of a cell is written as 0
 abbrev pub byte_key : ℕ → List ℕ
@@ -29,3 +29,8 @@ cells_after cell (b ∷ bs) = if b == 0 then bytes_after false cell ∷ cells_af
 -- the cells that lie in a piece of bytes
 abbrev pub cells_of : List ℕ → List (List ℕ)
 cells_of key = cells_after [] key
+
+-- the bytes are those of some cells, and each cell is text
+pub record IsKey (key : List ℕ) : Type 0 where
+  pub whole : row_key (cells_of key) ≡ key
+  pub texts : All IsUtf8 (cells_of key)

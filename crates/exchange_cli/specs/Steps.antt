@@ -1,5 +1,5 @@
 -- What the steps of a run do. No public clause cites this module.
-use Rattle.std.specs.Prelude.{◌≡◌, ℕ, ◌≤◌, List, [], ◌∷◌, ◌<◌, Option, IfSome, ⊤, length, take, slice_index_or, All}
+use Rattle.std.specs.Prelude.{◌≡◌, ℕ, ◌≤◌, List, [], ◌<◌, Option, IfSome, ⊤, length, take, slice_index_or, All}
 use Rattle.std.specs.Option.{option_map}
 use Rattle.std.specs.FinMap.{get}
 use Rattle.shelf_core.specs.Held.{Held, OthersStay}
@@ -7,18 +7,17 @@ use Rattle.shelf_core.specs.Faults.{Rises}
 use Rattle.shelf_core.specs.Fetching.{fetched_of}
 use Rattle.shelf_core.specs.declared.shelf.Fetched.TheVariants as fetched
 use Rattle.exchange_cli.specs.Words.{Exchange}
-use Rattle.exchange_cli.specs.Work.{FailsFirst, ReadsMapping}
-use Rattle.exchange_cli.specs.Mapping.{rules_of}
-use Rattle.rule_core.specs.Mapping.{RuleSet}
+use Rattle.temporal_csv.specs.Table.{IsTable}
+use Rattle.exchange_cli.specs.Names.{table_name}
+use Rattle.exchange_cli.specs.Work.{Gives, FailsFirst, ReadsBuilt, ComesToRelation}
+use Rattle.rule_core.specs.declared.rules.Relation.{Relation}
+use Rattle.mapping_core.specs.declared.mapping.Mapping.{Mapping as MappingValue}
 use Rattle.exchange_cli.specs.Target.{SourceTable, Inputs}
-use Rattle.exchange_cli.specs.MappingForm.{IsCopy}
-use Rattle.exchange_cli.specs.Stored.{HasNoByteOrderMark}
-use Rattle.exchange_cli.specs.declared.mapping.CopyMapping.{CopyMapping}
 use Rattle.exchange_cli.specs.declared.inputs.Inputs.{Inputs as InHand}
 use Rattle.exchange_cli.specs.Run.{Device, with_files}
 use Rattle.exchange_cli.specs.declared.file.FileOut.{FileOut}
 use Rattle.exchange_cli.specs.declared.ending.Ending.{Ending}
-use Rattle.exchange_cli.specs.declared.ending.Ending.TheVariants.{Missing, TooLong, NotBuilt, Table, Read, Memory}
+use Rattle.exchange_cli.specs.declared.ending.Ending.TheVariants.{Missing, TooLong, Mapping, NotBuilt, Table, Read, Memory}
 
 -- nothing was stored, and the count of faults is no lower
 pub record Keeps (before after : Device Held) : Type 0 where
@@ -39,8 +38,9 @@ FailsToFetch before after name limit other = ⊥
 abbrev pub StopsEarly : Device Held → Device Held → Exchange → Ending → Type 0
 StopsEarly before after command (Missing name) = IfSome before.content (λ held. FailsFirst held command (Missing name))
 StopsEarly before after command (TooLong name) = IfSome before.content (λ held. FailsFirst held command (TooLong name))
+StopsEarly before after command (Mapping fault) = IfSome before.content (λ held. FailsFirst held command (Mapping fault))
 StopsEarly before after command NotBuilt = IfSome before.content (λ held. FailsFirst held command NotBuilt)
-StopsEarly before after command (Table name) = IfSome before.content (λ held. FailsFirst held command (Table name))
+StopsEarly before after command (Table name fault) = IfSome before.content (λ held. FailsFirst held command (Table name fault))
 StopsEarly before after command (Read name) =
     IfSome before.content (λ held. FailsFirst held command (Read name)) × Rises before.faults after.faults
 StopsEarly before after command Memory = ⊤
@@ -53,20 +53,28 @@ StopsAtFile before after files at =
     × OthersStay (option_map (λ held. with_files held (take at files)) before.content) after.content file.name
     × Rises before.faults after.faults
 
--- where the shelf tells what it holds, the mapping there is this one
-abbrev pub ReadsMappingIn : Option Held → Exchange → RuleSet → Type 0
-ReadsMappingIn told command rules = IfSome told (λ held. ReadsMapping held command rules)
+-- where the shelf tells what it holds, the mapping there is this one, of the form that is built
+abbrev pub ReadsBuiltIn : Option Held → Exchange → MappingValue → Type 0
+ReadsBuiltIn told command mapping = IfSome told (λ held. ReadsBuilt held command mapping)
+
+-- where the shelf tells what it holds, the run comes to fetch the table of this relation with this limit
+abbrev pub ComesIn : Option Held → Exchange → Relation → ℕ → Type 0
+ComesIn told command relation limit = IfSome told (λ held. ComesToRelation held command relation limit)
+
+-- the relation's table is there within the limit, has so many bytes and no fault, and has these facts
+abbrev pub ReadsTable : Held → List ℕ → Relation → ℕ → SourceTable → ℕ → Type 0
+ReadsTable held prefix relation limit facts size = (bytes : List ℕ) × Gives held (table_name prefix relation.name) limit bytes
+    × (size ≡ length bytes) × IsTable relation.columns bytes facts
 
 -- what the program has read, as the definitions see it
 abbrev pub read_of : InHand → Inputs
-read_of inputs = record { rules = rules_of inputs.mapping; tables = inputs.facts ∷ [] }
+read_of inputs = record { mapping = inputs.mapping; tables = inputs.tables }
 
--- a mapping that passed its tests, and whose stored header begins with no byte order mark
-pub record IsSound (mapping : CopyMapping) : Type 0 where
-  pub copy : IsCopy mapping
-  pub no_mark : HasNoByteOrderMark mapping.target.columns
+-- each row has a cell for each column of the relation
+abbrev pub AreWide : Relation → SourceTable → Type 0
+AreWide relation table = All (λ r. length r.row ≡ length relation.columns) table
 
--- such a mapping, and facts that are as wide as its source relation
-pub record AreCopyable (mapping : CopyMapping) (facts : SourceTable) : Type 0 where
-  pub sound : IsSound mapping
-  pub wide : All (λ fact. length fact.row ≡ length mapping.source.columns) facts
+-- each relation has a table, which is as wide as the relation
+pub record AreAllWide (relations : List Relation) (tables : List SourceTable) : Type 0 where
+  pub size : length relations ≡ length tables
+  pub each : (k : ℕ) (r : Relation) → k < length relations → AreWide (slice_index_or relations k r) (slice_index_or tables k [])

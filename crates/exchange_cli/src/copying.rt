@@ -1,126 +1,153 @@
-//! A rule that copies: a row of values of the body's variables gives the row of the head's.
+//! Rules that copy: a fact that the body's atom matches gives the row of the head's atom.
 
-ghost use Rattle.std.specs.Prelude.{◌≡◌, ℕ, ℤ, ◌↔◌, List, All, Contains, length, map, IsTrue, IfOk, OnOk};
-ghost use Rattle.rule_core.specs.Terms.{StampedOf};
-ghost use Rattle.rule_core.specs.Coalesced.{Covers};
-ghost use Rattle.rule_core.specs.Copy.{CopiedRow};
-ghost use Rattle.csv.specs.Records.{fields_of};
-ghost use Rattle.exchange_cli.specs.Copying.{Copies, Agree, AddsImage, place_of, cell_at};
+ghost use Rattle.std.specs.Prelude.{◌≡◌, ℕ, ℤ, ◌↔◌, List, All, Contains, map, IfOk, OnOk};
+ghost use Rattle.std.specs.Ordering.{nat_cmp};
+ghost use Rattle.std.specs.Cmp.Lexicographic.{slice_cmp};
+ghost use Rattle.rule_core.specs.declared.rules.Arg.TheVariants.{Var};
+ghost use Rattle.rule_core.specs.Coalesced.{Covers, IsCoalesced};
+ghost use Rattle.rule_core.specs.Copy.{AreCopied, CopiedRow, CopiesInto, IsCopied, IsCopying, IsSafe, OnlyCopies};
+ghost use Rattle.exchange_cli.specs.Copying.{AddsCover, AddsImage, image_of};
+ghost use Rattle.exchange_cli.specs.Target.{text_in};
 
+use crate::binding::{fits, text_of};
+use crate::coalescing::coalesce;
 use crate::row::{Row, Stamped};
-use csv::ByteRecord;
+use mapping_core::Mapping;
+use rule_core::laws::copying_rules_are_safe;
+use rule_core::{Arg, Atom, Tgd};
 use std::alloc::Global;
-use term_core::{Items, Memory};
+use temporal_csv::RawFact;
+use term_core::{Items, Memory, Pool, Text};
 
-/// What the facts give, each over its span. The variables of the two atoms are numbers.
-pub fn copies(
+/// One coalesced table for each target relation, of exactly what the rules copy into it.
+pub fn copied_tables(
     alloc: Global,
-    body: &[u32],
-    head: &[u32],
-    facts: Items<Stamped>,
-) -> Result<Items<Stamped>, Memory>
-    requires widths { All (λ f. length f.row ≡ length body.now) facts }
-    requires safe { All (λ v. Contains body.now v) head.now }
-    ensures each { IfOk result (λ rows. (r : StampedOf (List (List ℕ))) → Contains rows r
-        ↔ ((f : StampedOf (List (List ℕ))) × Contains facts f × (f.span ≡ r.span)
-        × Copies body.now head.now f.row r.row)) }
-    ensures covers { IfOk result (λ rows. (row : List (List ℕ)) (t : ℤ)
-        → Covers rows row t ↔ CopiedRow body.now head.now facts row t) }
+    mapping: &Mapping,
+    tables: Items<Items<RawFact>>,
+) -> Result<Items<Items<Stamped>>, Memory>
+    requires { OnlyCopies mapping.now.rules }
+    ensures coalesced { IfOk result (λ copied.
+        All (λ table. IsCoalesced (slice_cmp (slice_cmp nat_cmp)) table) copied) }
+    ensures copied { IfOk result (λ copied.
+        AreCopied (text_in mapping.now.pool) mapping.now.rules tables copied) }
 {
-    let firsts = places_of(alloc, body, body)?;
-    let places = places_of(alloc, body, head)?;
-    let mut cells = ByteRecord::new(alloc);
-    let mut rows = Vec::new(alloc);
-    let facts = facts.into_vec();
-    for fact in facts {
-        add_image(alloc, &firsts, &places, &fact, &mut cells, &mut rows)?;
+    let mut copied = Items::new(alloc);
+    for relation in 0..mapping.rules.targets().len() {
+        let rows = copied_rows(alloc, mapping, tables.as_slice(), relation)?;
+        copied.push(coalesce(rows))?;
     }
-    Ok(Items::from_vec(rows))
+    Ok(copied)
 }
 
-// Adds what the fact gives, if its cells agree.
+// What the rules copy into a relation.
+fn copied_rows(
+    alloc: Global,
+    mapping: &Mapping,
+    tables: &[Items<RawFact>],
+    relation: usize,
+) -> Result<Items<Stamped>, Memory>
+    requires { OnlyCopies mapping.now.rules }
+    ensures { IfOk result (λ rows. (row : List (List ℕ)) (t : ℤ) → Covers rows row t
+        ↔ IsCopied (text_in mapping.now.pool) mapping.now.rules.tgds tables.now relation row t) }
+{
+    mapping.rules.are_valid();
+    copying_rules_are_safe();
+    let mut rows = Items::new(alloc);
+    for tgd in mapping.rules.tgds().as_slice() {
+        add_copies(alloc, &mapping.pool, tgd, tables, relation, &mut rows)?;
+    }
+    Ok(rows)
+}
+
+// Adds what the rule copies into a relation, if it copies into this one.
+fn add_copies(
+    alloc: Global,
+    pool: &Pool,
+    tgd: &Tgd,
+    tables: &[Items<RawFact>],
+    relation: usize,
+    rows: &mut Items<Stamped>,
+) -> Result<(), Memory>
+    requires copies { IsCopying tgd.now }
+    requires safe { IsSafe tgd.now }
+    ensures { OnOk result (AddsCover
+        (CopiesInto (text_in pool.now) tgd.now tables.now relation) rows.old rows.new) }
+{
+    let from = &tgd.body.as_slice()[0];
+    let to = &tgd.head.as_slice()[0];
+    if to.relation as usize != relation {
+        return Ok(());
+    }
+    match tables.get(from.relation as usize) {
+        Some(table) => add_images(alloc, pool, from, to, table.as_slice(), rows),
+        None => Ok(()),
+    }
+}
+
+// Adds what the facts of a table give.
+fn add_images(
+    alloc: Global,
+    pool: &Pool,
+    from: &Atom,
+    to: &Atom,
+    facts: &[RawFact],
+    rows: &mut Items<Stamped>,
+) -> Result<(), Memory>
+    requires { (v : ℕ) → Contains to.now.args (Var v) → Contains from.now.args (Var v) }
+    ensures { OnOk result (AddsCover
+        (CopiedRow (text_in pool.now) from.now to.now facts.now) rows.old rows.new) }
+{
+    for fact in facts {
+        add_image(alloc, pool, from, to, fact, rows)?;
+    }
+    Ok(())
+}
+
+// Adds what the fact gives, if its row fits the body's atom.
 fn add_image(
     alloc: Global,
-    firsts: &Vec<usize>,
-    places: &Vec<usize>,
-    fact: &Stamped,
-    cells: &mut ByteRecord,
-    rows: &mut Vec<Stamped>,
+    pool: &Pool,
+    from: &Atom,
+    to: &Atom,
+    fact: &RawFact,
+    rows: &mut Items<Stamped>,
 ) -> Result<(), Memory>
-    ensures { OnOk result
-        (AddsImage firsts.now.items places.now.items fact.now rows.old.items rows.new.items) }
+    ensures { OnOk result (AddsImage (text_in pool.now) from.now.args to.now.args fact.now
+        rows.old rows.new) }
 {
-    fact.row.fill(cells)?;
-    if agree(cells, firsts.as_slice()) {
-        let row = pick(alloc, cells, places.as_slice())?;
+    let body = from.args.as_slice();
+    let cells = fact.cells.as_slice();
+    if fits(pool, body, cells) {
+        let row = image(alloc, pool, body, cells, to.args.as_slice())?;
         let span = fact.span;
         rows.push(Stamped { row, span })?;
     }
     Ok(())
 }
 
-// The first place of each variable of the second list in the first.
-fn places_of(alloc: Global, variables: &[u32], wanted: &[u32]) -> Result<Vec<usize>, Memory>
-    ensures { IfOk result (λ places. places.items ≡ map (place_of variables.now) wanted.now) }
-{
-    let mut places = Vec::with_capacity(alloc, wanted.len())?;
-    for variable in wanted {
-        places.push(first_place(variables, *variable))?;
-    }
-    Ok(places)
-}
-
-// The first place of the variable, or how many variables there are where it is none of them.
-fn first_place(variables: &[u32], variable: u32) -> usize
-    ensures { result ≡ place_of variables.now variable }
-{
-    for k in 0..variables.len() {
-        if variables[k] == variable {
-            return k;
-        }
-    }
-    variables.len()
-}
-
-// The cell at a place, or an empty one behind the last.
-fn field(cells: &ByteRecord, place: usize) -> &[u8]
-    ensures { result.now ≡ cell_at (fields_of cells.now) place }
-{
-    match cells.get(place) {
-        Some(cell) => cell,
-        None => &[],
-    }
-}
-
-// Whether each cell is the same as the one at the place that is given for it.
-fn agree(cells: &ByteRecord, places: &[usize]) -> bool
-    ensures { IsTrue result ↔ Agree places.now (fields_of cells.now) }
-{
-    for k in 0..places.len() {
-        if field(cells, k) != field(cells, places[k]) {
-            return false;
-        }
-    }
-    true
-}
-
-// The row of the cells at the places.
-fn pick(alloc: Global, cells: &ByteRecord, places: &[usize]) -> Result<Row, Memory>
-    ensures { IfOk result (λ row. row ≡ map (cell_at (fields_of cells.now)) places.now) }
+// The row of the head's arguments, where the cells give the variables of the body their texts.
+fn image(
+    alloc: Global,
+    pool: &Pool,
+    body: &[Arg],
+    cells: &[Text],
+    head: &[Arg],
+) -> Result<Row, Memory>
+    ensures { IfOk result (λ row. row ≡ image_of (text_in pool.now) body.now cells.now head.now) }
 {
     let mut row = Row::new(alloc);
-    row.room(bytes_of(cells, places))?;
-    for place in places {
-        row.push_cell(field(cells, *place))?;
+    row.room(image_len(pool, body, cells, head))?;
+    for arg in head {
+        row.push_cell(text_of(pool, body, cells, arg))?;
     }
     Ok(row)
 }
 
-// How many bytes the cells at the places have, with one more for each.
-fn bytes_of(cells: &ByteRecord, places: &[usize]) -> usize {
-    let mut bytes = places.len();
-    for place in places {
-        bytes = bytes.saturating_add(field(cells, *place).len());
+// How many bytes the texts of the arguments have, with one more for each.
+fn image_len(pool: &Pool, body: &[Arg], cells: &[Text], head: &[Arg]) -> usize {
+    let mut bytes = head.len();
+    for arg in head {
+        bytes = bytes.saturating_add(text_of(pool, body, cells, arg).len());
     }
     bytes
 }

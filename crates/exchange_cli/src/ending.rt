@@ -3,6 +3,8 @@
 ghost use Rattle.std.specs.Prelude.{◌≡◌};
 ghost use Rattle.exchange_cli.specs.declared.ending.Ending.TheVariants.{Memory as OutOfMemory};
 
+use decl_text::MappingFault;
+use temporal_csv::TableFault;
 use term_core::{Memory, Text};
 
 /// How a run ends. Each refusal and each fault names what it is about.
@@ -16,10 +18,12 @@ pub enum Ending {
     Missing(Text),
     /// The file is longer than its limit.
     TooLong(Text),
+    /// The mapping has this fault first.
+    Mapping(MappingFault),
     /// The mapping is of no form that is built.
     NotBuilt,
-    /// The table has a fault.
-    Table(Text),
+    /// The table has this fault first.
+    Table(Text, TableFault),
     /// The shelf failed to fetch the file.
     Read(Text),
     /// The shelf failed to store the file.
@@ -47,7 +51,8 @@ impl Ending {
     {
         match self {
             Ending::Done => 0,
-            Ending::Missing(_) | Ending::TooLong(_) | Ending::NotBuilt | Ending::Table(_) => 1,
+            Ending::Missing(_) | Ending::TooLong(_) => 1,
+            Ending::Mapping(_) | Ending::NotBuilt | Ending::Table(_, _) => 1,
             Ending::Read(_) | Ending::Write(_) | Ending::Output => 3,
             Ending::Memory => 4,
             Ending::Words => 5,

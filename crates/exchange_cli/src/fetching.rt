@@ -1,6 +1,6 @@
 //! Fetches a file that a command needs.
 
-ghost use Rattle.std.specs.Prelude.{◌≡◌, IfOk, IfErr, IfSome};
+ghost use Rattle.std.specs.Prelude.{◌≡◌, ◌≤◌, IfOk, IfErr, IfSome, length};
 ghost use Rattle.exchange_cli.specs.Work.{Gives};
 ghost use Rattle.exchange_cli.specs.Run.{device};
 ghost use Rattle.exchange_cli.specs.Steps.{FailsToFetch, Keeps};
@@ -21,6 +21,7 @@ pub fn fetch<S: Shelf>(
         (device (S.holds shelf.new) (S.faults shelf.new)) }
     ensures gives { IfOk result (λ bytes. IfSome (S.holds shelf.old)
         (λ held. Gives held name.now limit bytes)) }
+    ensures bound { IfOk result (λ bytes. length bytes ≤ limit) }
     ensures fails { IfErr result (FailsToFetch (device (S.holds shelf.old) (S.faults shelf.old))
         (device (S.holds shelf.new) (S.faults shelf.new)) name.now limit) }
 {

@@ -1,21 +1,23 @@
 //! What a command reads: the mapping, and the facts of its source tables.
 
-ghost use Rattle.std.specs.Prelude.{◌≡◌, [], ◌∷◌, IfOk, IfErr, IfSome, All, length};
+ghost use Rattle.std.specs.Prelude.{◌≤◌, IfOk, IfErr, IfSome};
+ghost use Rattle.exchange_cli.specs.Built.{IsBuilt};
 ghost use Rattle.exchange_cli.specs.Commands.{command_of};
 ghost use Rattle.exchange_cli.specs.Work.{Reads, ReadsMapping, ReadsTables, tables_limit};
 ghost use Rattle.exchange_cli.specs.Run.{device};
-ghost use Rattle.exchange_cli.specs.Steps.{Keeps, StopsEarly, ReadsMappingIn, IsSound, AreCopyable, read_of};
-ghost use Rattle.exchange_cli.specs.Mapping.{rules_of};
+ghost use Rattle.exchange_cli.specs.Steps.{Keeps, StopsEarly, ReadsBuiltIn, ReadsTable, ComesIn, read_of};
 
+use crate::built::is_built;
 use crate::command::Exchange;
 use crate::ending::Ending;
 use crate::fetching::fetch;
 use crate::file_names::name_table;
-use crate::mapping::{CopyMapping, read_mapping};
-use crate::row::Stamped;
-use crate::table::{TableError, read_table};
+use decl_text::ReadError;
+use mapping_core::{Mapping, read_mapping};
+use rule_core::Relation;
 use shelf_core::Shelf;
 use std::alloc::Global;
+use temporal_csv::{RawFact, TableError, read_table};
 use term_core::{Items, Text};
 
 /// The most bytes that a mapping may have.
@@ -24,11 +26,11 @@ pub const MAPPING_LIMIT: usize = 1_048_576;
 /// The most bytes that all source tables together may have.
 pub const TABLES_LIMIT: usize = 67_108_864;
 
-/// A mapping that copies one relation, and the facts of that relation.
+/// A mapping, and the facts of each source table in the order of the relations.
 #[derive(Drop)]
 pub struct Inputs {
-    pub mapping: CopyMapping,
-    pub facts: Items<Stamped>,
+    pub mapping: Mapping,
+    pub tables: Items<Items<RawFact>>,
 }
 
 /// Reads all that the command needs, or says how the run ends.
@@ -41,61 +43,90 @@ pub fn read_inputs<S: Shelf>(
         (device (S.holds shelf.new) (S.faults shelf.new)) }
     ensures reads { IfOk result (λ inputs. IfSome (S.holds shelf.old)
         (λ held. Reads held (command_of command.now) (read_of inputs))) }
+    ensures built { IfOk result (λ inputs. IsBuilt inputs.mapping.rules) }
     ensures stops { IfErr result (StopsEarly (device (S.holds shelf.old) (S.faults shelf.old))
         (device (S.holds shelf.new) (S.faults shelf.new)) (command_of command.now)) }
-    ensures copyable { IfOk result (λ inputs. AreCopyable inputs.mapping inputs.facts) }
 {
     let mapping = fetch_mapping(alloc, shelf, command)?;
-    let facts = fetch_table(alloc, shelf, command, &mapping)?;
-    Ok(Inputs { mapping, facts })
+    if !is_built(&mapping.rules) {
+        return Err(Ending::NotBuilt);
+    }
+    let tables = fetch_tables(alloc, shelf, command, &mapping)?;
+    Ok(Inputs { mapping, tables })
 }
 
-// The mapping, which is of the form that is built.
+// The mapping.
 fn fetch_mapping<S: Shelf>(
     alloc: Global,
     shelf: &mut S,
     command: &Exchange<'_>,
-) -> Result<CopyMapping, Ending>
+) -> Result<Mapping, Ending>
     ensures keeps { Keeps (device (S.holds shelf.old) (S.faults shelf.old))
         (device (S.holds shelf.new) (S.faults shelf.new)) }
     ensures reads { IfOk result (λ mapping. IfSome (S.holds shelf.old)
-        (λ held. ReadsMapping held (command_of command.now) (rules_of mapping))) }
+        (λ held. ReadsMapping held (command_of command.now) mapping)) }
     ensures stops { IfErr result (StopsEarly (device (S.holds shelf.old) (S.faults shelf.old))
         (device (S.holds shelf.new) (S.faults shelf.new)) (command_of command.now)) }
-    ensures sound { IfOk result IsSound }
 {
     let name = Text::from_str(alloc, command.mapping)?;
     let bytes = fetch(alloc, shelf, &name, MAPPING_LIMIT)?;
-    let found = read_mapping(alloc, bytes.as_slice())?;
-    match found {
-        Some(mapping) => Ok(mapping),
-        None => Err(Ending::NotBuilt),
+    match read_mapping(alloc, bytes.as_slice()) {
+        Ok(mapping) => Ok(mapping),
+        Err(ReadError::Fault(fault)) => Err(Ending::Mapping(fault)),
+        Err(ReadError::Memory) => Err(Ending::Memory),
     }
 }
 
-// The facts of the source table.
+// The facts of each source table, in the order of the relations. Each fetch may take what is left of the limit.
+fn fetch_tables<S: Shelf>(
+    alloc: Global,
+    shelf: &mut S,
+    command: &Exchange<'_>,
+    mapping: &Mapping,
+) -> Result<Items<Items<RawFact>>, Ending>
+    ensures keeps { Keeps (device (S.holds shelf.old) (S.faults shelf.old))
+        (device (S.holds shelf.new) (S.faults shelf.new)) }
+    ensures reads { IfOk result (λ tables. IfSome (S.holds shelf.old)
+        (λ held. ReadsTables held command.now.source.now tables_limit
+        mapping.now.rules.sources tables)) }
+    ensures stops { IfErr result (λ ending.
+        ReadsBuiltIn (S.holds shelf.old) (command_of command.now) mapping.now
+        → StopsEarly (device (S.holds shelf.old) (S.faults shelf.old))
+        (device (S.holds shelf.new) (S.faults shelf.new)) (command_of command.now) ending) }
+{
+    let mut left = TABLES_LIMIT;
+    let mut tables = Items::new(alloc);
+    for relation in mapping.rules.sources().as_slice() {
+        let (facts, len) = fetch_table(alloc, shelf, command, relation, left)?;
+        left -= len;
+        tables.push(facts)?;
+    }
+    Ok(tables)
+}
+
+// The facts of a source table, and how many bytes it has.
 fn fetch_table<S: Shelf>(
     alloc: Global,
     shelf: &mut S,
     command: &Exchange<'_>,
-    mapping: &CopyMapping,
-) -> Result<Items<Stamped>, Ending>
+    relation: &Relation,
+    limit: usize,
+) -> Result<(Items<RawFact>, usize), Ending>
     ensures keeps { Keeps (device (S.holds shelf.old) (S.faults shelf.old))
         (device (S.holds shelf.new) (S.faults shelf.new)) }
-    ensures reads { IfOk result (λ facts. IfSome (S.holds shelf.old)
-        (λ held. ReadsTables held command.now.source.now tables_limit
-        (mapping.now.source ∷ []) (facts ∷ []))) }
+    ensures reads { IfOk result (λ read. IfSome (S.holds shelf.old)
+        (λ held. ReadsTable held command.now.source.now relation.now limit read.0 read.1)) }
+    ensures within { IfOk result (λ read. read.1 ≤ limit) }
     ensures stops { IfErr result (λ ending.
-        ReadsMappingIn (S.holds shelf.old) (command_of command.now) (rules_of mapping.now)
+        ComesIn (S.holds shelf.old) (command_of command.now) relation.now limit
         → StopsEarly (device (S.holds shelf.old) (S.faults shelf.old))
         (device (S.holds shelf.new) (S.faults shelf.new)) (command_of command.now) ending) }
-    ensures wide { IfOk result (All (λ fact. length fact.row ≡ length mapping.now.source.columns)) }
 {
-    let name = name_table(alloc, command.source, &mapping.source.name)?;
-    let bytes = fetch(alloc, shelf, &name, TABLES_LIMIT)?;
-    match read_table(alloc, bytes.as_slice(), &mapping.source.columns) {
-        Ok(facts) => Ok(facts),
-        Err(TableError::Fault(_)) => Err(Ending::Table(name)),
+    let name = name_table(alloc, command.source, &relation.name)?;
+    let bytes = fetch(alloc, shelf, &name, limit)?;
+    match read_table(alloc, bytes.as_slice(), &relation.columns) {
+        Ok(facts) => Ok((facts, bytes.as_slice().len())),
+        Err(TableError::Fault(fault)) => Err(Ending::Table(name, fault)),
         Err(TableError::Memory) => Err(Ending::Memory),
     }
 }

@@ -1,30 +1,25 @@
 //! The top call of the program: it reads a mapping and a source, and stores what is certain.
 #![tactic(auto)]
 
+mod binding;
+mod built;
 mod coalescing;
 mod command;
 mod copying;
 mod delivery;
 mod ending;
+mod fault_texts;
 mod fetching;
 mod file;
 mod file_names;
 mod inputs;
 pub mod laws;
-mod lines;
-mod mapping;
-mod names;
 mod reporting;
 mod row;
 mod solving;
-mod statement;
-mod stored;
-pub mod stored_laws;
-mod table;
-pub mod table_laws;
+mod storing;
 #[cfg(test)]
 mod tests;
-mod tokens;
 mod top;
 
 pub use ending::Ending;

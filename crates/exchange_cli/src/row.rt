@@ -1,16 +1,19 @@
 //! A row of texts in one piece of memory, whose bytes compare as the rows do: the cells `a` and `b`
 //! are kept as `a 0 b 0`, and the bytes 0 and 1 of a cell as `1 1` and `1 2`.
 
-ghost use Rattle.std.specs.Prelude.{◌≡◌, ℕ, [], ◌∷◌, ◌++◌, ◌+◌, ◌≤◌, nat_le, false, vec_len, vec_capacity, OnOk, OnErr};
+ghost use Rattle.std.specs.Prelude.{◌≡◌, ℕ, [], ◌∷◌, ◌++◌, ◌+◌, ◌≤◌, nat_le, false, map, vec_len, vec_capacity, IfOk, OnOk, OnErr, IsUtf8};
 ghost use Rattle.std.specs.List.{list_all};
-ghost use Rattle.csv.specs.Records.{fields_of, partial_of};
+ghost use Rattle.rule_core.specs.Terms.{constant};
+ghost use Rattle.temporal_csv.specs.Cells.{term_of};
+ghost use Rattle.temporal_csv.specs.Stored.{stamped_row};
 ghost use Rattle.exchange_cli.specs.RowKey.{byte_key, bytes_key, bytes_after};
 
-use csv::ByteRecord;
 use std::alloc::Global;
 use std::cmp::Ordering;
 use std::marker::Model;
-use term_core::Memory;
+use std::str;
+use temporal_csv::{Cell, OutRow};
+use term_core::{Items, Memory, Text};
 use time_line::Span;
 
 /// The cells of a row.
@@ -20,14 +23,14 @@ pub struct Row {
 }
 
 impl Model for Row {
-    ghost use Rattle.std.specs.Prelude.{◌≡◌, List, ℕ};
-    ghost use Rattle.exchange_cli.specs.RowKey.{cells_of, row_key};
+    ghost use Rattle.std.specs.Prelude.{List, ℕ};
+    ghost use Rattle.exchange_cli.specs.RowKey.{IsKey, cells_of};
 
     ghost Value = { List (List ℕ) };
 
     ghost view = { λ r. cells_of r.key.items };
 
-    ghost invariant = { λ r. row_key (cells_of r.key.items) ≡ r.key.items };
+    ghost invariant = { λ r. IsKey r.key.items };
 }
 
 impl Row {
@@ -49,30 +52,30 @@ impl Row {
     }
 
     /// Adds a cell at the end. On an error the row stays as it was.
-    pub fn push_cell(&mut self, cell: &[u8]) -> Result<(), Memory>
+    pub fn push_cell(&mut self, cell: &str) -> Result<(), Memory>
         ensures ok { OnOk result (self.new ≡ self.old ++ cell.now ∷ []) }
         ensures err { OnErr result (self.new ≡ self.old) }
     {
-        push_key(&mut self.key, cell)?;
+        push_key(&mut self.key, cell.as_bytes())?;
         Ok(())
     }
 
-    /// Puts the cells into a record in place of its fields.
-    pub fn fill(&self, cells: &mut ByteRecord) -> Result<(), Memory>
-        ensures fields { OnOk result (fields_of cells.new ≡ self.now) }
-        ensures partial { OnOk result (partial_of cells.new ≡ []) }
+    /// The cells, each as a constant that can be stored.
+    pub fn cells(&self) -> Result<Items<Cell>, Memory>
+        ensures { IfOk result (λ cells. map term_of cells ≡ map constant self.now) }
     {
-        cells.clear();
         let alloc = *self.key.allocator();
         let key = self.key.as_slice();
+        let mut cells = Items::new(alloc);
         let mut start = 0;
         for at in 0..key.len() {
             if key[at] == 0 {
-                push_field(alloc, cells, &key[start..at])?;
+                let text = read_cell(alloc, &key[start..at])?;
+                cells.push(Cell::Const(text))?;
                 start = at + 1;
             }
         }
-        Ok(())
+        Ok(cells)
     }
 }
 
@@ -117,16 +120,13 @@ fn push_key(key: &mut Vec<u8>, cell: &[u8]) -> Result<(), Memory>
     Ok(())
 }
 
-// Adds the cell whose bytes are written so.
-fn push_field(alloc: Global, cells: &mut ByteRecord, written: &[u8]) -> Result<(), Memory>
-    requires { partial_of cells.old ≡ [] }
-    ensures fields { OnOk result (fields_of cells.new
-        ≡ fields_of cells.old ++ bytes_after false written.now ∷ []) }
-    ensures partial { OnOk result (partial_of cells.new ≡ []) }
+// The text of the cell whose bytes are written so.
+fn read_cell(alloc: Global, written: &[u8]) -> Result<Text, Memory>
+    requires { IsUtf8 (bytes_after false written.now) }
+    ensures { IfOk result (λ text. text ≡ bytes_after false written.now) }
 {
     if !written.contains(&1) {
-        cells.push_field(written)?;
-        return Ok(());
+        return copy_text(alloc, written);
     }
     let mut cell = Vec::with_capacity(alloc, written.len())?;
     let mut marked = false;
@@ -140,8 +140,15 @@ fn push_field(alloc: Global, cells: &mut ByteRecord, written: &[u8]) -> Result<(
             cell.push(*b)?;
         }
     }
-    cells.push_field(cell.as_slice())?;
-    Ok(())
+    copy_text(alloc, cell.as_slice())
+}
+
+// A copy of bytes that are text.
+fn copy_text(alloc: Global, bytes: &[u8]) -> Result<Text, Memory>
+    requires { IsUtf8 bytes.now }
+    ensures { IfOk result (λ text. text ≡ bytes.now) }
+{
+    Text::from_str(alloc, str::from_utf8(bytes).unwrap())
 }
 
 impl PartialEq for Row {
@@ -215,4 +222,16 @@ impl Model for Stamped {
     ghost view = { λ s. record { row = s.row; span = s.span } };
 
     ghost inverse = { λ v. record { row = v.row; span = v.span } };
+}
+
+impl Stamped {
+    /// The row as it is stored, with its span.
+    pub fn to_out_row(&self) -> Result<OutRow, Memory>
+        ensures { IfOk result (λ out. out ≡ stamped_row
+            (record { row = map constant self.now.row; span = self.now.span })) }
+    {
+        let span = Some(self.span);
+        let cells = self.row.cells()?;
+        Ok(OutRow { cells, span })
+    }
 }

@@ -18,6 +18,7 @@ struct Run {
     status: u8,
 }
 
+// What the words do with a mapping and the table of its relation A.
 fn ran(
     alloc: Global,
     words: &[&str],
@@ -25,9 +26,22 @@ fn ran(
     table: &[u8],
     failing: u64,
 ) -> Result<Run, Fail> {
+    ran_on(alloc, words, mapping, &[("src/A.csv", table)], failing)
+}
+
+// What the words do with a mapping and source tables.
+fn ran_on(
+    alloc: Global,
+    words: &[&str],
+    mapping: &[u8],
+    tables: &[(&str, &[u8])],
+    failing: u64,
+) -> Result<Run, Fail> {
     let mut shelf = MemoryShelf::new(alloc);
     shelf.place("m.txt", mapping)?;
-    shelf.place("src/A.csv", table)?;
+    for (name, table) in tables {
+        shelf.place(name, table)?;
+    }
     shelf.place("out/verdict.txt", b"before")?;
     shelf.fail(failing)?;
     shelf.room(8, 10_000)?;
@@ -51,15 +65,23 @@ fn ran(
 // Refused runs first: the status, the line, and that nothing was stored or printed.
 #[test]
 fn refusals_change_nothing(rt: HostRuntime) -> Result<(), Fail> {
-    let two_columns =
-        b"source A(x, y)\ntarget B(x, z)\ntgd p: A(x, y) -> exists z: B(x, z)\n".as_slice();
     let elsewhere = ["exchange", "n.txt", "src", "out"].as_slice();
     let three = ["exchange", "m.txt", "src"].as_slice();
     let no_table = ["exchange", "m.txt", "from", "out"].as_slice();
-    let rows: [(&[&str], &[u8], &[u8], u64, u8, &[u8]); 8] = [
+    let unsafe_variable =
+        b"source A(x)\ntarget B(x, y)\ntgd t: A(x) -> B(x, x)\nquery q(x, z): B(x, y)\n".as_slice();
+    let rows: [(&[&str], &[u8], &[u8], u64, u8, &[u8]); 9] = [
         (&["--help"], M0, FIRST_RUN, 0, 5, b"refused: words\n"),
         (three, M0, FIRST_RUN, 0, 5, b"refused: words\n"),
         (elsewhere, M0, FIRST_RUN, 0, 1, b"refused: missing n.txt\n"),
+        (
+            &WORDS,
+            unsafe_variable,
+            FIRST_RUN,
+            2,
+            1,
+            b"refused: mapping U4 at byte 72\n",
+        ),
         (
             no_table,
             M0,
@@ -70,19 +92,19 @@ fn refusals_change_nothing(rt: HostRuntime) -> Result<(), Fail> {
         ),
         (
             &WORDS,
-            two_columns,
-            FIRST_RUN,
-            2,
-            1,
-            b"refused: not built\n",
-        ),
-        (
-            &WORDS,
             M0,
             b"x,start,end\na,5,5\n",
             0,
             1,
-            b"refused: table src/A.csv\n",
+            b"refused: table src/A.csv C6 at record 2\n",
+        ),
+        (
+            &WORDS,
+            M0,
+            b"x,start,end\na,1,2\na,x,7\n",
+            0,
+            1,
+            b"refused: table src/A.csv C4 at record 3\n",
         ),
         (&WORDS, M0, FIRST_RUN, 1, 3, b"fault: read m.txt\n"),
         (&WORDS, M0, FIRST_RUN, 2, 3, b"fault: read src/A.csv\n"),
@@ -101,10 +123,30 @@ fn refusals_change_nothing(rt: HostRuntime) -> Result<(), Fail> {
     Ok(())
 }
 
+// Mappings in the grammar with a form to come: an `exists` variable, two atoms on a side, an egd, a query. No table is
+// fetched, as the second call would fail.
+#[test]
+fn forms_to_come_are_refused(rt: HostRuntime) -> Result<(), Fail> {
+    let mappings: [&[u8]; 6] = [
+        b"source A(x, y)\ntarget B(x, z)\ntgd p: A(x, y) -> exists z: B(x, z)\n",
+        b"source A(x)\ntarget B(x)\ntgd p: A(x) -> exists z: B(x)\n",
+        b"source A(x)\nsource C(x)\ntarget B(x)\ntgd t: A(x), C(x) -> B(x)\n",
+        b"source A(x)\ntarget B(x)\ntarget D(x)\ntgd t: A(x) -> B(x), D(x)\n",
+        b"source A(x)\ntarget B(x, y)\ntgd t: A(x) -> B(x, x)\negd e: B(x, y), B(x, z) -> y = z\n",
+        b"source A(x)\ntarget B(x)\ntgd t: A(x) -> B(x)\nquery q(x): B(x)\n",
+    ];
+    for mapping in mappings {
+        let run = ran(rt.alloc(), &WORDS, mapping, FIRST_RUN, 2)?;
+        assert_eq!(rt; run.status, 1);
+        assert_eq!(rt; run.err.text(), b"refused: not built\n".as_slice());
+    }
+    Ok(())
+}
+
 // Solved runs: the stored table, with the verdict and the line.
 #[test]
 fn solved_runs_store_the_target(rt: HostRuntime) -> Result<(), Fail> {
-    let rows: [(&[u8], &[u8], &[u8]); 5] = [
+    let rows: [(&[u8], &[u8], &[u8]); 6] = [
         (M0, FIRST_RUN, b"x,start,end\na,1,5\nb,-inf,2\n"),
         (
             M0,
@@ -122,6 +164,11 @@ fn solved_runs_store_the_target(rt: HostRuntime) -> Result<(), Fail> {
             b"x,y,z,start,end\na,p,a,0,inf\na,p,b,0,inf\nb,p,b,4,6\nb,p,b,7,9\n",
             b"z,x,start,end\np,a,0,inf\np,b,4,6\np,b,7,9\n",
         ),
+        (
+            b"source A(x)\ntarget B(x, y)\ntgd t: A(x) -> B(x, \"k\")\ntgd u: A(\"a\") -> B(\"a\", \"?\")\n",
+            b"x,start,end\na,1,3\nb,2,4\n",
+            b"x,y,start,end\na,??,1,3\na,k,1,3\nb,k,2,4\n",
+        ),
     ];
     for (mapping, table, stored) in rows {
         let run = ran(rt.alloc(), &WORDS, mapping, table, 0)?;
@@ -134,6 +181,46 @@ fn solved_runs_store_the_target(rt: HostRuntime) -> Result<(), Fail> {
             Some(b"solved\n".as_slice())
         );
     }
+    Ok(())
+}
+
+// Two source relations and three target relations, one of which no rule fills; and the mapping without any line.
+#[test]
+fn each_target_relation_has_a_file(rt: HostRuntime) -> Result<(), Fail> {
+    let mapping = b"source A(x)\nsource C(x, y)\ntarget B(x, y)\ntarget D(x)\ntarget E(x)\n\
+        tgd a: C(x, y) -> B(y, x)\ntgd b: A(x) -> B(x, x)\ntgd c: C(x, x) -> D(x)\n"
+        .as_slice();
+    let tables: [(&str, &[u8]); 2] = [
+        ("src/A.csv", b"x,start,end\np,1,4\n"),
+        ("src/C.csv", b"x,y,start,end\np,p,3,9\np,q,1,2\n"),
+    ];
+    let run = ran_on(rt.alloc(), &WORDS, mapping, &tables, 0)?;
+    assert_eq!(rt; run.status, 0);
+    let stored: [(&str, &[u8]); 3] = [
+        ("out/B.csv", b"x,y,start,end\np,p,1,9\nq,p,1,2\n"),
+        ("out/D.csv", b"x,start,end\np,3,9\n"),
+        ("out/E.csv", b"x,start,end\n"),
+    ];
+    for (name, bytes) in stored {
+        assert_eq!(rt; run.shelf.get(name), Some(bytes), "{name}");
+    }
+    let second = ran_on(rt.alloc(), &WORDS, mapping, &tables[..1], 0)?;
+    assert_eq!(rt;
+        second.err.text(),
+        b"refused: missing src/C.csv\n".as_slice()
+    );
+    let none = ran_on(rt.alloc(), &WORDS, b"", &tables, 2)?;
+    assert_eq!(rt;
+        none.err.text(),
+        b"fault: write out/verdict.txt\n".as_slice()
+    );
+    let empty = ran_on(rt.alloc(), &WORDS, b"", &tables, 0)?;
+    assert_eq!(rt; empty.status, 0);
+    assert_eq!(rt;
+        empty.shelf.get("out/verdict.txt"),
+        Some(b"solved\n".as_slice())
+    );
+    assert_eq!(rt; empty.shelf.get("out/B.csv"), None);
     Ok(())
 }
 

@@ -9,6 +9,7 @@ use crate::command::read_words;
 use crate::delivery::deliver;
 use crate::ending::Ending;
 use crate::inputs::read_inputs;
+use crate::laws::{what_is_read_is_not_refused, what_is_read_is_one};
 use crate::reporting::report;
 use crate::solving::solve;
 use shelf_core::{Shelf, Sink};
@@ -45,6 +46,8 @@ pub fn run<S: Shelf, O: Sink, E: Sink>(
         (seen S.holds S.faults O.text O.faults shelf.old out.old)
         (seen S.holds S.faults O.text O.faults shelf.new out.new) result }
 {
+    what_is_read_is_one();
+    what_is_read_is_not_refused();
     let ending = work(alloc, words.as_slice(), shelf, out);
     report(err, &ending);
     ending.status()

@@ -1,11 +1,10 @@
--- A mapping that could not be fetched is the first failure.
+-- A mapping that could not be fetched, or has a fault, is the first failure.
 use Rattle.std.proofs.Common.{◌≡◌, IfSome}
 use Rattle.std.proofs.lemmas.Result.{err_from_is_err_and}
 use Rattle.exchange_cli.specs.Commands.{command_of}
 use Rattle.exchange_cli.specs.Work.{Comes, mapping_limit}
 use Rattle.exchange_cli.specs.Run.{device}
-use Rattle.exchange_cli.proofs.StepLemmas.{fetch_stops, comes_to_mapping, not_built_stops}
-use Rattle.exchange_cli.proofs.WordLemmas.{no_mark}
+use Rattle.exchange_cli.proofs.StepLemmas.{fetch_stops, comes_to_mapping, mapping_stops}
 use Rattle.exchange_cli.proofs.inputs.fetch_mapping.Goals as goal
 
 pub returns-in_err-bytes-clause-stops : goal.returns-in_err-bytes-clause-stops
@@ -19,13 +18,8 @@ returns-in_err-bytes-clause-stops g c =
     (g.S.Shelf.faults c.fetch.new.shelf))
     command c.in_ok-name.name mapping_limit c.in_err-bytes.field-0.0 comes c.in_err-bytes.ensures.fails)
 
-pub returns-clause-stops : goal.returns-clause-stops
-returns-clause-stops g c =
-    not_built_stops (g.S.Shelf.holds c.args.shelf.now) (command_of c.args.command.now) c.in_ok-name.name c.in_ok-bytes.bytes
-    c.in_ok-name.ensures c.in_ok-bytes.ensures.gives
-    (rw c.as_slice.ensures at (rw c.in-None.is at c.in_ok-found.ensures.none))
-
-pub returns-in-Some-clause-sound : goal.returns-in-Some-clause-sound
-returns-in-Some-clause-sound g c =
-    let form = rw c.in-Some.is at c.in_ok-found.ensures.form in
-    record { copy = form.copy; no_mark = no_mark c.as_slice.result.now c.in-Some.mapping form }
+pub returns-in-Err-Fault-clause-stops : goal.returns-in-Err-Fault-clause-stops
+returns-in-Err-Fault-clause-stops g c =
+    mapping_stops (g.S.Shelf.holds c.args.shelf.now) (command_of c.args.command.now) c.in_ok-name.name c.in_ok-bytes.bytes
+    c.in-Err-Fault.fault c.in_ok-name.ensures c.in_ok-bytes.ensures.gives
+    (rw (c.as_slice.ensures, c.in-Err-Fault.field-0-is) at c.in-Err-Fault.ensures.fault)

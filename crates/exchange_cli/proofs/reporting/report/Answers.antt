@@ -7,8 +7,11 @@ returns-in-Missing g c = rw c.in-Missing.is (rw c.as_bytes.ensures.value at c.sa
 pub returns-in-TooLong : goal.returns-in-TooLong
 returns-in-TooLong g c = rw c.in-TooLong.is (rw c.as_bytes-in-TooLong.ensures.value at c.say-in-TooLong.ensures)
 
+pub returns-in-Mapping : goal.returns-in-Mapping
+returns-in-Mapping g c = rw c.in-Mapping.is c.say_mapping.ensures
+
 pub returns-in-Table : goal.returns-in-Table
-returns-in-Table g c = rw c.in-Table.is (rw c.as_bytes-in-Table.ensures.value at c.say-in-Table.ensures)
+returns-in-Table g c = rw c.in-Table.is c.say_table.ensures
 
 pub returns-in-Read : goal.returns-in-Read
 returns-in-Read g c = rw c.in-Read.is (rw c.as_bytes-in-Read.ensures.value at c.say-in-Read.ensures)

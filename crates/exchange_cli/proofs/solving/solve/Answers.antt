@@ -1,27 +1,29 @@
 -- The coalesced copies, as they are stored, are the target.
-use Rattle.std.proofs.Common.{◌≡◌, List, [], ◌∷◌}
-use Rattle.std.proofs.lemmas.Result.{IfOk-weaker}
-use Rattle.exchange_cli.specs.Names.{table_name, verdict_name}
-use Rattle.exchange_cli.specs.Target.{AreSolvedFiles, solved}
+use Rattle.std.proofs.Common.{[], ◌∷◌, ◌++◌, ap, ◌∙◌}
+use Rattle.exchange_cli.specs.Target.{text_in}
 use Rattle.exchange_cli.specs.Steps.{read_of}
-use Rattle.exchange_cli.specs.declared.file.FileOut.{FileOut}
-use Rattle.exchange_cli.proofs.TargetLemmas.{copy_safe, solved_files_are}
+use Rattle.exchange_cli.proofs.TargetLemmas.{copies_are_wide, solved_files_are}
 use Rattle.exchange_cli.proofs.solving.solve.Goals as goal
 
-pub copies-requires-clause-safe : goal.copies-requires-clause-safe
-copies-requires-clause-safe c = rw (c.as_slice.ensures, c.as_slice-2.ensures) (copy_safe c.args.inputs.mapping c.requires.sound.copy)
+pub table_files-requires-clause-valid : goal.table_files-requires-clause-valid
+table_files-requires-clause-valid c = rw (c.as_slice.ensures, c.targets.ensures) c.are_valid.ensures.relations.target_relations
+
+pub table_files-requires-clause-wide : goal.table_files-requires-clause-wide
+table_files-requires-clause-wide c =
+    let mapping = c.args.inputs.mapping in
+    let name = text_in mapping.pool in
+    rw (c.as_slice.ensures, c.targets.ensures) (copies_are_wide name mapping.rules c.args.inputs.tables c.in_ok-copied.copied
+    (λ relation row t copied. c.copied_rows_are_as_wide_as_their_relation.ensures name mapping.rules c.are_valid.ensures
+    c.args.inputs.tables relation row t copied)
+    c.in_ok-copied.ensures.copied c.in_ok-copied.ensures.coalesced)
 
 pub returns : goal.returns
 returns c =
-    let m = c.args.inputs.mapping in
-    let target = c.args.target.now in
-    let table = c.in_ok-table.table in
-    IfOk-weaker c.solved_files.result
-    (λ (files : List FileOut). files ≡ record { name = table_name target m.target.name; bytes = table }
-    ∷ record { name = verdict_name target; bytes = solved } ∷ [])
-    (AreSolvedFiles (read_of c.args.inputs) target)
-    (λ files are. solved_files_are m c.args.inputs.facts c.in_ok-copied.copied c.coalesce-rows.result target table files c.requires
-    (rw (c.as_slice.ensures, c.as_slice-2.ensures) at c.in_ok-copied.ensures.covers) c.coalesce-rows.ensures.coalesced
-    c.coalesce-rows.ensures.covers
-    (c.in_ok-table.ensures.stored c.requires.sound.no_mark) are)
-    c.solved_files.ensures
+    let mapping = c.args.inputs.mapping in
+    let copied = c.in_ok-copied.copied in
+    solved_files_are (read_of c.args.inputs) copied c.tables_of_constants_are_coalesced_alike.ensures
+    (λ t. c.copied_tables_are_universal.ensures (text_in mapping.pool) mapping.rules c.are_valid.ensures c.requires.copies
+    c.args.inputs.tables copied c.in_ok-copied.ensures.copied t)
+    c.in_ok-copied.ensures.coalesced c.args.target.now c.in_ok-files.files c.push.new.self
+    (rw (c.as_slice.ensures, c.targets.ensures) at c.in_ok-files.ensures)
+    (c.in_ok-push.ensures.ok ∙ ap (λ f. c.in_ok-files.files ++ f ∷ []) c.in_ok-verdict.ensures)

@@ -23,8 +23,8 @@ returns g c =
       ends = ends;
       words = words_clause words before after err now status ends;
       untouched = search rules;
-      status = status_clause words before after err now status ends;
-      target = target_clause words before after err now status ends;
+      status = status_clause c.what_is_read_is_one.ensures c.what_is_read_is_not_refused.ensures words before after err now status ends;
+      target = target_clause c.what_is_read_is_one.ensures c.what_is_read_is_not_refused.ensures words before after err now status ends;
       output = output_clause words before after err now status ends;
       stores = store_clause words before after err now status ends;
     }

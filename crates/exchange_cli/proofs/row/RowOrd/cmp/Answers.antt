@@ -7,5 +7,5 @@ use Rattle.exchange_cli.proofs.row.RowOrd.cmp.Goals as goal
 pub returns : goal.returns
 returns c =
     c.cmp.ensures
-    ∙ keys_cmp _ _ c.self.invariant c.other.invariant
+    ∙ keys_cmp _ _ c.self.invariant.whole c.other.invariant.whole
     ∙ (λ i. slice_cmp (slice_cmp nat_cmp) (c.self.view_is i) (c.other.view_is i))

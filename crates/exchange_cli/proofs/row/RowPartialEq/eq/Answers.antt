@@ -6,5 +6,5 @@ use Rattle.exchange_cli.proofs.row.RowPartialEq.eq.Goals as goal
 pub returns : goal.returns
 returns c =
     c.eq.ensures
-    ∙ keys_eq _ _ c.self.invariant c.other.invariant
+    ∙ keys_eq _ _ c.self.invariant.whole c.other.invariant.whole
     ∙ (λ i. pointwise (pointwise nat_eq) (c.self.view_is i) (c.other.view_is i))

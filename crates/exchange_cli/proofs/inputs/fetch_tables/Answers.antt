@@ -1,0 +1,85 @@
+-- The tables are read in turn, each with what is left of the limit.
+use Rattle.std.proofs.Common.{◌≡◌, ◌+◌, ◌∷◌, refl, sym, ap, ◌∙◌, arith, drop}
+use Rattle.std.proofs.lemmas.Result.{err_from_is_err_and}
+use Rattle.std.proofs.lemmas.List.{drop_more, drop_all}
+use Rattle.exchange_cli.specs.Commands.{command_of}
+use Rattle.exchange_cli.specs.Run.{device}
+use Rattle.exchange_cli.specs.Steps.{ComesIn}
+use Rattle.exchange_cli.proofs.StepLemmas.{GoesOnIn, goes_on_first, goes_on_more, goes_on_last, comes_next, keeps_both, stops_since}
+use Rattle.exchange_cli.proofs.inputs.fetch_tables.Goals as goal
+use Rattle.exchange_cli.proofs.inputs.fetch_tables.Goals.{After-relation-item, After-as_slice-relation-items}
+use Rattle.exchange_cli.proofs.inputs.fetch_tables.Given.{Over}
+
+pub loop-relation-init : goal.loop-relation-init
+loop-relation-init g c = record {
+  keeps = record { same = refl; later = omega arith };
+  goes_on = rw c.new-tables.ensures (goes_on_first (g.S.Shelf.holds c.args.shelf.now) c.args.command.now.source.now c.args.mapping.now.rules.sources);
+}
+
+-- the relations that the loop goes through
+relations_are : (g : Over) (c : After-as_slice-relation-items g) → c.as_slice-relation-items.result.now ≡ c.args.mapping.now.rules.sources
+relations_are g c = c.as_slice-relation-items.ensures ∙ c.sources.ensures
+
+-- the relation of a turn is the first of those that are left
+goes_on_here : (g : Over) (c : After-relation-item g) → GoesOnIn (g.S.Shelf.holds c.args.shelf.now) c.args.command.now.source.now
+    c.args.mapping.now.rules.sources
+    (c.relation-item.result ∷ drop (c.loop-relation.relation-index + 1) c.args.mapping.now.rules.sources) c.loop-relation.tables
+    c.loop-relation.left
+goes_on_here g c =
+    let sources = c.args.mapping.now.rules.sources in
+    let i = c.loop-relation.relation-index in
+    let relation = c.relation-item.result in
+    let are = relations_are g (goal.at.After-relation-item g c).After-as_slice-relation-items in
+    let rest : drop i sources ≡ relation ∷ drop (i + 1) sources =
+    drop_more sources i relation (rw are at c.loop-relation-test.true)
+    ∙ ap (λ r. r ∷ drop (i + 1) sources) (sym (rw are at c.relation-item.is)) in
+    rw rest at c.loop-relation.invariant.goes_on
+
+pub loop-relation-preserved : goal.loop-relation-preserved
+loop-relation-preserved g c =
+    let holds = g.S.Shelf.holds in
+    let faults = g.S.Shelf.faults in
+    let before = c.loop-relation.invariant.keeps in
+    record {
+      keeps = keeps_both (device (holds c.args.shelf.now) (faults c.args.shelf.now))
+          (device (holds c.loop-relation.shelf) (faults c.loop-relation.shelf))
+          (device (holds c.fetch_table.new.shelf) (faults c.fetch_table.new.shelf)) before c.in_ok-facts.ensures.keeps;
+      goes_on = rw c.in_ok-push.ensures.ok (goes_on_more (holds c.args.shelf.now) c.args.command.now.source.now
+          c.args.mapping.now.rules.sources (drop (c.loop-relation.relation-index + 1) c.args.mapping.now.rules.sources)
+          c.relation-item.result c.loop-relation.tables c.loop-relation.left c.in_ok-facts.len c.in_ok-facts.facts
+          (goes_on_here g (goal.at.loop-relation-preserved g c).After-relation-item) (rw before.same at c.in_ok-facts.ensures.reads));
+    }
+
+pub returns-in_err-facts-clause-keeps : goal.returns-in_err-facts-clause-keeps
+returns-in_err-facts-clause-keeps g c =
+    let holds = g.S.Shelf.holds in
+    let faults = g.S.Shelf.faults in
+    keeps_both (device (holds c.args.shelf.now) (faults c.args.shelf.now))
+    (device (holds c.loop-relation.shelf) (faults c.loop-relation.shelf))
+    (device (holds c.fetch_table.new.shelf) (faults c.fetch_table.new.shelf)) c.loop-relation.invariant.keeps c.in_err-facts.ensures.keeps
+
+pub returns-in_err-facts-clause-stops : goal.returns-in_err-facts-clause-stops
+returns-in_err-facts-clause-stops g c =
+    let holds = g.S.Shelf.holds in
+    let faults = g.S.Shelf.faults in
+    let command = command_of c.args.command.now in
+    let before = c.loop-relation.invariant.keeps in
+    let relation = c.relation-item.result in
+    let p = err_from_is_err_and c.from_residual.result c.from_residual.ensures.1 in
+    rw (p.1, p.2) (λ built.
+    let comes : ComesIn (holds c.loop-relation.shelf) command relation c.loop-relation.left =
+    rw before.same (comes_next (holds c.args.shelf.now) command c.args.mapping.now
+    (drop (c.loop-relation.relation-index + 1) c.args.mapping.now.rules.sources) relation c.loop-relation.tables c.loop-relation.left
+    (goes_on_here g (goal.at.returns-in_err-facts-clause-stops g c).After-relation-item) built) in
+    stops_since (device (holds c.args.shelf.now) (faults c.args.shelf.now))
+    (device (holds c.loop-relation.shelf) (faults c.loop-relation.shelf))
+    (device (holds c.fetch_table.new.shelf) (faults c.fetch_table.new.shelf)) command c.in_err-facts.field-0.0
+    before c.in_err-facts.ensures.keeps (c.in_err-facts.ensures.stops comes))
+
+pub returns-clause-reads : goal.returns-clause-reads
+returns-clause-reads g c =
+    let sources = c.args.mapping.now.rules.sources in
+    let are = relations_are g (goal.at.returns-clause-reads g c).After-as_slice-relation-items in
+    let none = drop_all c.loop-relation.relation-index sources (rw are at c.loop-relation-test.false) in
+    goes_on_last (g.S.Shelf.holds c.args.shelf.now) c.args.command.now.source.now sources c.loop-relation.tables c.loop-relation.left
+    (rw none at c.loop-relation.invariant.goes_on)

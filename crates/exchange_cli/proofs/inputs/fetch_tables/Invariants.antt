@@ -1,0 +1,15 @@
+use Rattle.std.proofs.Common.{drop}
+use Rattle.exchange_cli.specs.Run.{device}
+use Rattle.exchange_cli.specs.Steps.{Keeps}
+use Rattle.exchange_cli.proofs.StepLemmas.{GoesOnIn}
+use Rattle.exchange_cli.proofs.inputs.fetch_tables.Given as goal
+
+abbrev pub invariant-loop-relation : goal.invariant-loop-relation
+invariant-loop-relation g l =
+    let holds = g.S.Shelf.holds in
+    let faults = g.S.Shelf.faults in
+    record {
+      keeps : Keeps (device (holds l.fn.shelf) (faults l.fn.shelf)) (device (holds l.shelf) (faults l.shelf));
+      goes_on : GoesOnIn (holds l.fn.shelf) l.command.source.now l.mapping.rules.sources
+          (drop l.relation-index l.mapping.rules.sources) l.tables l.left;
+    }

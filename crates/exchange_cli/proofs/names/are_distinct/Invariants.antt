@@ -1,6 +1,0 @@
-use Rattle.std.proofs.Common.{AllPairs, take}
-use Rattle.std.specs.Prelude.{◌≢◌}
-use Rattle.exchange_cli.proofs.names.are_distinct.Given as goal
-
-abbrev pub invariant-loop-at : goal.invariant-loop-at
-invariant-loop-at l = AllPairs (λ a b. a ≢ b) (take l.at l.names)

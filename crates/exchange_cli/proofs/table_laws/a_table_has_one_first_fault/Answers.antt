@@ -1,5 +1,0 @@
-use Rattle.exchange_cli.proofs.TableLemmas.{fault-unique}
-use Rattle.exchange_cli.proofs.table_laws.a_table_has_one_first_fault.Goals as goal
-
-pub returns : goal.returns
-returns c = fault-unique c.one_end_a_text.ensures

@@ -1,5 +1,0 @@
-use Rattle.exchange_cli.proofs.TableLemmas.{table-unique}
-use Rattle.exchange_cli.proofs.table_laws.a_table_has_one_list_of_facts.Goals as goal
-
-pub returns : goal.returns
-returns c = table-unique c.one_end_a_text.ensures
