@@ -87,8 +87,8 @@ Pass-each tests bytes Good each from position [] to last pass token lexeme there
 Pass-each {P} tests bytes Good each from position (t ∷ ts) to last pass token lexeme there says =
     elim (Contains-cons_cases t token ts there) [
       | inl same ↦
-        let comes : Comes tests bytes position token (goes pass.1.0) =
-        subst (λ v. Comes tests bytes position v (goes pass.1.0)) same pass.1.1 in
-        subst Good (says_once bytes token comes.lexeme lexeme comes.says says) (each position pass.1.0 comes.lexeme comes.tested)
+          let comes : Comes tests bytes position token (goes pass.1.0) =
+          subst (λ v. Comes tests bytes position v (goes pass.1.0)) same pass.1.1 in
+          subst Good (says_once bytes token comes.lexeme lexeme comes.says says) (each position pass.1.0 comes.lexeme comes.tested)
       | inr later ↦ Pass-each tests bytes Good each t.end pass.1.0 ts to last pass.1.2 token lexeme later says
     ]

@@ -6,7 +6,7 @@ use Rattle.shelf_core.specs.Held.{Held}
 use Rattle.shelf_core.proofs.FaultLemmas.{then_rises}
 use Rattle.rule_core.specs.declared.rules.Relation.{Relation}
 use Rattle.decl_text.specs.declared.fault.MappingFault.{MappingFault}
-use Rattle.mapping_core.specs.declared.mapping.Mapping.{Mapping as MappingValue}
+use Rattle.mapping_core.specs.Mapping.{Meaning as MappingValue}
 use Rattle.mapping_core.specs.Reading.{IsFirstFault as IsMappingFault}
 use Rattle.temporal_csv.specs.Table.{IsTable, IsFirstFault as IsTableFault}
 use Rattle.temporal_csv.specs.declared.fault.TableFault.{TableFault}

@@ -11,7 +11,7 @@ use Rattle.temporal_csv.specs.Table.{IsTable}
 use Rattle.exchange_cli.specs.Names.{table_name}
 use Rattle.exchange_cli.specs.Work.{Gives, FailsFirst, ReadsBuilt, ComesToRelation}
 use Rattle.rule_core.specs.declared.rules.Relation.{Relation}
-use Rattle.mapping_core.specs.declared.mapping.Mapping.{Mapping as MappingValue}
+use Rattle.mapping_core.specs.Mapping.{Meaning as MappingValue}
 use Rattle.exchange_cli.specs.Target.{SourceTable, Inputs}
 use Rattle.exchange_cli.specs.declared.inputs.Inputs.{Inputs as InHand}
 use Rattle.exchange_cli.specs.Run.{Device, with_files}

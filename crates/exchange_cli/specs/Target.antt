@@ -8,7 +8,7 @@ use Rattle.rule_core.specs.Order.{stored_cmp}
 use Rattle.rule_core.specs.Snapshot.{snapshot_at}
 use Rattle.rule_core.specs.Solution.{IsUniversal}
 use Rattle.rule_core.specs.Coalesced.{IsCoalesced}
-use Rattle.mapping_core.specs.declared.mapping.Mapping.{Mapping}
+use Rattle.mapping_core.specs.Mapping.{Meaning}
 use Rattle.temporal_csv.specs.Stored.{IsStored, header_of, stamped_row, table_text}
 use Rattle.exchange_cli.specs.Names.{table_name, verdict_name}
 use Rattle.exchange_cli.specs.Endings.{line}
@@ -24,7 +24,7 @@ TargetTable = List (StampedOf (List (TermOf (List ℕ))))
 
 -- what a run has read: the mapping, and the facts of each source table in the order of the relations
 pub record Inputs : Type 0 where
-  pub mapping : Mapping
+  pub mapping : Meaning
   pub tables : List SourceTable
 
 -- the text at a constant's place in a pool; behind the last an empty one

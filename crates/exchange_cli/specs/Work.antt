@@ -7,7 +7,7 @@ use Rattle.shelf_core.specs.declared.shelf.Fetched.TheVariants as fetched
 use Rattle.rule_core.specs.declared.rules.Relation.{Relation}
 use Rattle.exchange_cli.specs.Words.{Exchange}
 use Rattle.exchange_cli.specs.Names.{table_name}
-use Rattle.mapping_core.specs.declared.mapping.Mapping.{Mapping as MappingValue}
+use Rattle.mapping_core.specs.Mapping.{Meaning as MappingValue}
 use Rattle.mapping_core.specs.Reading.{IsMapping, IsFirstFault as IsMappingFault}
 use Rattle.temporal_csv.specs.Table.{IsTable, IsFirstFault as IsTableFault}
 use Rattle.exchange_cli.specs.Built.{IsBuilt}

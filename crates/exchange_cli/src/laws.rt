@@ -8,14 +8,14 @@ ghost use Rattle.exchange_cli.specs.Work.{Reads, FailsFirst};
 ghost use Rattle.exchange_cli.specs.declared.ending.Ending.{Ending};
 ghost use Rattle.exchange_cli.specs.declared.ending.Ending.TheVariants.{Read};
 
-use mapping_core::laws::{a_text_is_a_mapping_or_has_a_fault, a_text_is_one_mapping};
+use mapping_core::laws::a_mapping_is_one;
 use temporal_csv::laws::{a_table_has_facts_or_a_fault, a_table_has_one_list_of_facts};
 
 /// All that a command reads from what is held is one mapping and one list of tables.
 pub fn what_is_read_is_one()
     ensures { (held : Held) (command : Exchange) (a b : Inputs) → Reads held command a → Reads held command b → a ≡ b }
 {
-    a_text_is_one_mapping();
+    a_mapping_is_one();
     a_table_has_one_list_of_facts();
 }
 
@@ -25,8 +25,7 @@ pub fn what_is_read_is_not_refused()
     ensures { (held : Held) (command : Exchange) (inputs : Inputs) → Reads held command inputs
         → (ending : Ending) → FailsFirst held command ending → (name : List ℕ) × (ending ≡ Read name) }
 {
-    a_text_is_one_mapping();
-    a_text_is_a_mapping_or_has_a_fault();
+    a_mapping_is_one();
     a_table_has_one_list_of_facts();
     a_table_has_facts_or_a_fault();
 }
