@@ -7,6 +7,7 @@ pub mod StoringLemmas
 pub mod TargetLemmas
 pub mod StepLemmas
 pub mod ReadLemmas
+pub mod FailureLemmas
 pub mod SayLemmas
 pub mod FileLemmas
 pub mod RunLemmas

@@ -53,25 +53,26 @@ bytes_of (fetched.Bytes bytes) other = bytes
 bytes_of fetched.Missing other = other
 bytes_of fetched.TooLong other = other
 
-one_fetch : (held : Held) (name : List ℕ) (limit : ℕ) (a b : List ℕ) → Gives held name limit a → Gives held name limit b → a ≡ b
+pub one_fetch : (held : Held) (name : List ℕ) (limit : ℕ) (a b : List ℕ) → Gives held name limit a → Gives held name limit b → a ≡ b
 unfolding bytes_of
 one_fetch held name limit a b p q = ap (λ f. bytes_of f a) (sym p ∙ q)
 
-not_missing : (held : Held) (name : List ℕ) (limit : ℕ) (bytes : List ℕ) → Gives held name limit bytes
+pub not_missing : (held : Held) (name : List ℕ) (limit : ℕ) (bytes : List ℕ) → Gives held name limit bytes
     → fetched_of (get held name) limit ≡ fetched.Missing → ⊥
 not_missing held name limit bytes p q = cc
 
-not_too_long : (held : Held) (name : List ℕ) (limit : ℕ) (bytes : List ℕ) → Gives held name limit bytes
+pub not_too_long : (held : Held) (name : List ℕ) (limit : ℕ) (bytes : List ℕ) → Gives held name limit bytes
     → fetched_of (get held name) limit ≡ fetched.TooLong → ⊥
 not_too_long held name limit bytes p q = cc
 
 -- ---- all that is read
 
-module _ (one_mapping : OneMapping) (one_table : OneTable) (held : Held) (command : Exchange) where
-  one_mapping_read : (a b : MappingValue) → ReadsMapping held command a → ReadsMapping held command b → a ≡ b
-  one_mapping_read a b p q =
-      one_mapping p.0 a b p.2 (subst (λ bytes. IsMapping bytes b) (one_fetch held command.mapping mapping_limit q.0 p.0 q.1 p.1) q.2)
+pub one_mapping_read : OneMapping → (held : Held) (command : Exchange) (a b : MappingValue)
+    → ReadsMapping held command a → ReadsMapping held command b → a ≡ b
+one_mapping_read one_mapping held command a b p q =
+    one_mapping p.0 a b p.2 (subst (λ bytes. IsMapping bytes b) (one_fetch held command.mapping mapping_limit q.0 p.0 q.1 p.1) q.2)
 
+module _ (one_mapping : OneMapping) (one_table : OneTable) (held : Held) (command : Exchange) where
   one_reading_of_tables : (prefix : List ℕ) (left : ℕ) (relations : List Relation) (a b : List SourceTable)
       → ReadsTables held prefix left relations a → ReadsTables held prefix left relations b → a ≡ b
   one_reading_of_tables prefix left [] a b p q = p ∙ sym q
@@ -85,7 +86,7 @@ module _ (one_mapping : OneMapping) (one_table : OneTable) (held : Held) (comman
   -- all that a command reads is one
   pub one_reading : (a b : Inputs) → Reads held command a → Reads held command b → a ≡ b
   one_reading a b p q =
-      let mapping = one_mapping_read a.mapping b.mapping p.mapping.0 q.mapping.0 in
+      let mapping = one_mapping_read one_mapping held command a.mapping b.mapping p.mapping.0 q.mapping.0 in
       let tables = one_reading_of_tables command.source tables_limit a.mapping.rules.sources a.tables b.tables p.tables
       (subst (λ (m : MappingValue). ReadsTables held command.source tables_limit m.rules.sources b.tables) (sym mapping) q.tables) in
       λ i. record { mapping = mapping i; tables = tables i }
@@ -110,7 +111,7 @@ module _ (one_mapping : OneMapping) (one_table : OneTable) (held : Held) (comman
         → (bytes : List ℕ) × (facts : SourceTable) × Gives held (table_name command.source relation.name) limit bytes
         × IsTable relation.columns bytes facts
     comes_to_relation relation limit mapping built comes =
-        let same = one_mapping_read mapping inputs.mapping built.0 reads.mapping.0 in
+        let same = one_mapping_read one_mapping held command mapping inputs.mapping built.0 reads.mapping.0 in
         comes_to_read command.source tables_limit inputs.mapping.rules.sources inputs.tables relation limit reads.tables
         (subst (λ (m : MappingValue). ComesToTable held command.source tables_limit m.rules.sources relation limit) same comes)
 
@@ -134,7 +135,7 @@ module _ (one_mapping : OneMapping) (one_table : OneTable) (held : Held) (comman
         let same = one_fetch held command.mapping mapping_limit reads.mapping.0.0 fails.0 reads.mapping.0.1 fails.1 in
         absurd (sound fails.0 inputs.mapping fault (subst (λ bytes. IsMapping bytes inputs.mapping) same reads.mapping.0.2) fails.2)
     nothing_fails sound clean NotBuilt fails =
-        let same = one_mapping_read inputs.mapping fails.0 reads.mapping.0 fails.1 in
+        let same = one_mapping_read one_mapping held command inputs.mapping fails.0 reads.mapping.0 fails.1 in
         absurd (fails.2 (rw same at reads.mapping.1))
     nothing_fails sound clean (Table name fault) fails =
         let relation = fails.0 in

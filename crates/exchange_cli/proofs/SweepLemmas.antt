@@ -6,16 +6,16 @@ use Rattle.std.specs.Ordering.{int_cmp, is_lt, ordering_then, ordering_reverse}
 use Rattle.std.specs.Cmp.{IsTotalOrder}
 use Rattle.std.proofs.lemmas.Bool.{false≢true}
 use Rattle.std.proofs.lemmas.Int.{ints, by_lt_z}
-use Rattle.std.proofs.lemmas.Cmp.{int_ranked, tied_itself}
+use Rattle.std.proofs.lemmas.Cmp.{int_ranked, tied_itself, then_total, on_total}
 use Rattle.std.proofs.lemmas.List.{get_or_append_left}
 use Rattle.std.proofs.Math.Seq.{get_or-append_seam}
 use Rattle.std.proofs.lemmas.List.Elements.{All-contains, All-push, Contains-append_left, Contains-append_right, Contains-append_cases, Contains-push, Contains-push_cases, Contains-get_or}
 use Rattle.std.proofs.lemmas.List.Quantifiers.{all_pairs_push}
 use Rattle.std.proofs.lemmas.List.Sorted.{sorted_far, ranks_by}
 use Rattle.time_line.specs.Span.{Ends, IsFrom, IsBefore, Has, HasInstant, AreApart, Meet, StopsAt, Touch, IsJoin, start_cmp, stop_cmp, span_cmp}
+use Rattle.time_line.specs.SpanOrder.{span_cmp-total}
 use Rattle.rule_core.specs.Terms.{StampedOf}
 use Rattle.rule_core.specs.Coalesced.{Covers, stamped_cmp, AreSeparate, IsCoalesced}
-use Rattle.rule_core.proofs.CoalescedLemmas.{stamped_cmp-total}
 use Rattle.exchange_cli.proofs.ListLemmas.{Contains-head, Contains-cons, Contains-cons_cases, Contains-nil, AllPairs-head, AllPairs-tail}
 
 -- ---- two spans
@@ -215,7 +215,7 @@ module _ {X : Type 0} (cmp : X → X → Ordering) where
     sorted_upto all sorted i j d h l =
         let a = get_or all i d in
         let b = get_or all j d in
-        let weak = ranks_by (stamped_cmp-total cmp o) (λ (x : Entry). x) in
+        let weak = ranks_by (then_total (on_total (λ (z : Entry). z.row) o) (on_total (λ (z : Entry). z.span) span_cmp-total)) (λ (x : Entry). x) in
         upto_by a b (cmp b.row a.row) refl
         (sorted_far (λ x y. is_lt (stamped_cmp cmp x y)) weak all sorted i j d (omega arith) l)
 
