@@ -10,6 +10,7 @@ use Rattle.rule_core.specs.declared.rules.Atom.{Atom}
 use Rattle.rule_core.specs.Terms.{TermOf, constant, unknown, numbered, FactOf, StampedOf}
 use Rattle.rule_core.specs.Match.{Matches}
 use Rattle.rule_core.specs.Snapshot.{snapshot_at}
+use Rattle.fact_table.specs.declared.fact.Fact.{Fact}
 use Rattle.fact_table.specs.Rows.{SeenRow}
 use Rattle.body_match.specs.declared.found.Match.{Match}
 
@@ -25,6 +26,10 @@ fact_of row = record { row = record { relation = row.relation; terms = map seen_
 -- the rows of a store as facts
 abbrev pub facts_of : List (Option SeenRow) → List (StampedOf (FactOf ConstId))
 facts_of rows = filter_map (option_map fact_of) rows
+
+-- a fact of a table, with its constants as terms
+abbrev pub with_terms : Fact → StampedOf (FactOf ConstId)
+with_terms fact = record { row = record { relation = fact.relation; terms = map constant fact.row }; span = fact.span }
 
 -- the binding gives each variable the term that its value shows
 abbrev pub AgreesWith : List Seen → (ℕ → TermOf ConstId) → Type 0
