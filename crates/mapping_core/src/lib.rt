@@ -3,7 +3,9 @@
 
 pub mod laws;
 mod mapping;
+mod printing;
 mod reading;
 
 pub use mapping::Mapping;
+pub use printing::print_mapping;
 pub use reading::read_mapping;
