@@ -5,6 +5,8 @@ pub mod laws;
 mod mapping;
 mod printing;
 mod reading;
+#[cfg(test)]
+mod tests;
 
 pub use mapping::Mapping;
 pub use printing::print_mapping;
