@@ -4,3 +4,6 @@ pub mod LineLemmas
 pub mod PoolLemmas
 pub mod ReadsLemmas
 pub mod OneMapping
+pub mod FrontLemmas
+pub mod TextsLemmas
+pub mod BackLemmas

@@ -1,5 +1,5 @@
 -- A text has one mapping, or one first fault.
-use Rattle.std.proofs.Common.{◌≡◌, ◌≢◌, ◌⊎◌, inl, inr, ℕ, List, [], ◌∷◌, Contains, refl, sym, ap, ◌∙◌, subst, rules}
+use Rattle.std.proofs.Common.{◌≡◌, ◌⊎◌, inl, inr, ℕ, List, [], refl, sym, ap, ◌∙◌, subst, rules}
 use Rattle.std.specs.Ordering.{nat_cmp}
 use Rattle.std.specs.Cmp.Lexicographic.{slice_cmp}
 use Rattle.std.proofs.lemmas.Cmp.{nat_list_cmp_total}
@@ -7,17 +7,15 @@ use Rattle.rule_core.specs.Mapping.{RuleSet}
 use Rattle.rule_core.specs.declared.rules.Place.{Place}
 use Rattle.rule_core.specs.declared.rules.Relation.{Relation}
 use Rattle.rule_core.proofs.ListLemmas.{same_strict_lists}
-use Rattle.decl_text.specs.declared.token.Kind.{Kind}
-use Rattle.decl_text.specs.declared.token.Kind.TheVariants.{Name, Quoted, LeftParen, RightParen, Comma, Colon, Arrow, Equals, Bar, Finish}
+use Rattle.decl_text.specs.declared.token.Kind.TheVariants.{Name, Finish}
 use Rattle.decl_text.specs.declared.fault.Code.{Code}
 use Rattle.decl_text.specs.declared.fault.MappingFault.{MappingFault}
-use Rattle.decl_text.specs.Tests.{Lexeme, Outcome, goes, stops, Stops, When, Test, IsDecided, Rests, Finishes, Fails}
+use Rattle.decl_text.specs.Tests.{Lexeme, Outcome, goes, stops, IsDecided, Rests, Finishes, Fails}
 use Rattle.decl_text.specs.Declaration.{Named, DeclarationPosition, wants_name, wants_column, declared, declaration_tests}
 use Rattle.decl_text.specs.Declaration as declaration
 use Rattle.decl_text.proofs.DecidedLemmas.{AtMostOne, Goes-one, When-one, declaration_decided}
 use Rattle.decl_text.proofs.OneOutcome.{fails_once, finishes_once, finishes_apart}
 use Rattle.rule_text.specs.declared.rule.Rule.{Rule}
-use Rattle.rule_text.specs.declared.rule.Rule.TheVariants.{Tgd, Query}
 use Rattle.rule_text.specs.RuleLine.{Frame, body_of_tgd, head_of_tgd, body_of_egd, disjunct_of, Said, RulePosition, begins, wants_tgd_name, wants_egd_name, wants_query_name, wants_head_parenthesis, wants_head, wants_head_variable, wants_head_comma, wants_colon, wants_atom, wants_parenthesis, wants_argument, wants_comma, after_atom, after_arrow, wants_exists_variable, wants_exists_comma, wants_left, wants_equals, wants_right, wants_line_end, stated, after_atom_tests, rule_tests}
 use Rattle.rule_text.specs.RuleLine as line
 use Rattle.rule_text.proofs.OneOutcome.{rule_decided}

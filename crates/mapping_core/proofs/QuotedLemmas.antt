@@ -1,5 +1,5 @@
 -- What stands in quotes from a place on: in the tokens up to a later place, or from there on.
-use Rattle.std.proofs.Common.{◌≡◌, ◌≢◌, ◌⊎◌, inl, inr, ℕ, ◌<◌, ◌≤◌, List, [], ◌∷◌, ◌++◌, length, Contains, refl, sym, ap, ◌∙◌, subst, arith, rules}
+use Rattle.std.proofs.Common.{◌≡◌, ◌≢◌, ◌⊎◌, inl, inr, ℕ, ◌<◌, ◌≤◌, List, [], ◌∷◌, ◌++◌, length, take, drop, ◌-◌, IsUtf8, Contains, refl, sym, ap, ◌∙◌, subst, arith, rules}
 use Rattle.std.proofs.lemmas.List.{length-append, length-drop}
 use Rattle.rule_core.proofs.ListLemmas.{Contains-head, Contains-cons, Contains-nil, Contains-cons_cases}
 use Rattle.decl_text.specs.declared.token.Kind.{Kind}
@@ -7,7 +7,8 @@ use Rattle.decl_text.specs.declared.token.Kind.TheVariants.{Name, Quoted, LeftPa
 use Rattle.decl_text.specs.declared.token.Token.{Token}
 use Rattle.decl_text.specs.declared.fault.MappingFault.{MappingFault}
 use Rattle.decl_text.specs.Tokens.{IsSpelled, IsNextToken, IsNextFault}
-use Rattle.decl_text.specs.Tests.{Lexeme, Outcome, Pass}
+use Rattle.decl_text.specs.Quotes.{IsQuoted}
+use Rattle.decl_text.specs.Tests.{Lexeme, IsTextOf, Outcome, Pass}
 use Rattle.decl_text.specs.TokenList.{Stand, IsQuotedFrom}
 use Rattle.decl_text.proofs.NextLemmas.{next_token_once, next_apart}
 use Rattle.rule_text.specs.Constants.{IsQuotedAmong}
@@ -150,3 +151,10 @@ pub Stand-forward : (bytes : List ℕ) (from : ℕ) (tokens : List Token) (to : 
 Stand-forward bytes from [] to stand = omega (arith, stand)
 Stand-forward bytes from (token ∷ tokens) to stand =
     omega (arith, token_not_back bytes from token stand.0, Stand-forward bytes token.end tokens to stand.1)
+
+-- a text that stands in quotes is UTF-8
+pub quoted_utf8 : (bytes : List ℕ) (from : ℕ) (text : List ℕ) → IsQuotedFrom bytes from text → IsUtf8 text
+quoted_utf8 bytes from text (tokens, to, found, stand, member, says) =
+    let quoted : IsQuoted (take (found.end - found.start) (drop found.start bytes)) text =
+    subst (λ k. IsTextOf k (take (found.end - found.start) (drop found.start bytes)) text) (sym says.kind) says.text in
+    (quoted.0, (quoted.1.characters_are, sym quoted.2))

@@ -1,5 +1,5 @@
 -- What is known after each line of a mapping's text.
-use Rattle.std.proofs.Common.{◌≡◌, ◌≢◌, ◌⊎◌, ◌↔◌, inl, inr, ℕ, ◌<◌, ◌≤◌, List, [], ◌∷◌, length, slice_get, Some, Contains, refl, sym, ap, ◌∙◌, arith, rules}
+use Rattle.std.proofs.Common.{◌≡◌, ◌≢◌, ◌⊎◌, ◌↔◌, inl, inr, ℕ, ◌<◌, ◌≤◌, List, [], ◌∷◌, length, slice_get, Some, IsUtf8, Contains, refl, sym, ap, ◌∙◌, arith, rules}
 use Rattle.std.proofs.lemmas.List.Elements.{All-weaker, All-contains_itself}
 use Rattle.std.proofs.lemmas.Option.{slice_get_within}
 use Rattle.term_core.specs.declared.const_id.ConstId.{ConstId}
@@ -27,7 +27,7 @@ use Rattle.mapping_core.specs.Reading.{at_line, of_declaration, of_rule, mapping
 use Rattle.mapping_core.specs.Steps.{ReadsTo, RuleBegins, OtherBegins}
 use Rattle.rule_text.proofs.ConstantLemmas.{rule_texts, rule_texts_short, rule_constants_known}
 use Rattle.decl_text.proofs.FitLemmas.{declared_unquoted}
-use Rattle.mapping_core.proofs.QuotedLemmas.{quoted_split, quoted_first, quoted_rest, quoted_no_finish, Pass-stand, Stand-forward, AtEnd-finish, token_forward}
+use Rattle.mapping_core.proofs.QuotedLemmas.{quoted_utf8, quoted_split, quoted_first, quoted_rest, quoted_no_finish, Pass-stand, Stand-forward, AtEnd-finish, token_forward}
 use Rattle.mapping_core.proofs.PlacedLemmas.{Pass-begun, Fails-begun}
 use Rattle.mapping_core.proofs.LineLemmas.{rule_step, declaration_step, rule_first, rule_word, rule_word_is_name, declaration_first, declaration_word, more_constants, same_constants}
 
@@ -216,5 +216,6 @@ ReadsTo-constants bytes pool from set token before all next kind =
     record {
       there = before.there;
       used = All-weaker (Contains pool) (IsConstantText set pool) used pool (All-contains_itself pool);
+      utf8 = All-weaker (Contains pool) IsUtf8 (λ text c. quoted_utf8 bytes 0 text ((all.quoted text).0 c)) pool (All-contains_itself pool);
       short = All-weaker (Contains pool) (λ text. length text ≤ 4096) (λ text c. before.short text (used text c)) pool (All-contains_itself pool);
     }

@@ -1,8 +1,11 @@
-//! Laws of the definitions: a text is one mapping, or has one first fault.
+//! Laws of the definitions: a text is one mapping, or has one first fault, and mappings are read back.
 
 ghost use Rattle.std.specs.Prelude.{◌≡◌, ℕ, List};
 ghost use Rattle.decl_text.specs.declared.fault.MappingFault.{MappingFault as FaultValue};
-ghost use Rattle.mapping_core.specs.Mapping.{Meaning};
+ghost use Rattle.term_core.specs.Pool.{IsPool};
+ghost use Rattle.rule_core.specs.Validity.{IsValid};
+ghost use Rattle.mapping_core.specs.Canonical.{mapping_text};
+ghost use Rattle.mapping_core.specs.Mapping.{Meaning, HasItsConstants};
 ghost use Rattle.mapping_core.specs.Reading.{IsMapping, IsFirstFault};
 
 /// A text is one mapping at most, it has one first fault at most, and not both.
@@ -13,4 +16,10 @@ pub fn a_mapping_is_one()
         → IsFirstFault bytes a → IsFirstFault bytes b → a ≡ b }
     ensures apart { (bytes : List ℕ) (mapping : Meaning) (fault : FaultValue)
         → IsMapping bytes mapping → ¬ (IsFirstFault bytes fault) }
+{}
+
+/// The canonical text of a mapping is read as the mapping.
+pub fn mappings_are_read_back()
+    ensures { (mapping : Meaning) → IsValid mapping.rules → IsPool mapping.pool
+        → HasItsConstants mapping.rules mapping.pool → IsMapping (mapping_text mapping) mapping }
 {}

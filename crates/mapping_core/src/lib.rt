@@ -3,7 +3,11 @@
 
 pub mod laws;
 mod mapping;
+mod printing;
 mod reading;
+#[cfg(test)]
+mod tests;
 
 pub use mapping::Mapping;
+pub use printing::print_mapping;
 pub use reading::read_mapping;

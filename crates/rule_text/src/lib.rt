@@ -6,6 +6,6 @@ mod printing;
 mod reading;
 mod rule;
 
-pub use printing::print_rule;
+pub use printing::{print_egd, print_query, print_rule, print_tgd};
 pub use reading::read_rule;
 pub use rule::Rule;

@@ -27,7 +27,8 @@ pub fn print_rule(alloc: Global, rule: &Rule, rules: &Rules, pool: &Pool) -> Res
     }
 }
 
-fn print_tgd(alloc: Global, tgd: &Tgd, rules: &Rules, pool: &Pool) -> Result<Text, Memory>
+/// A tgd's canonical line, with its line feed.
+pub fn print_tgd(alloc: Global, tgd: &Tgd, rules: &Rules, pool: &Pool) -> Result<Text, Memory>
     requires valid { IsTgd rules.now.sources rules.now.targets tgd.now }
     requires body { AreTextual pool.now (λ text. ⊤) tgd.now.body }
     requires head { AreTextual pool.now (λ text. ⊤) tgd.now.head }
@@ -60,7 +61,8 @@ fn print_tgd(alloc: Global, tgd: &Tgd, rules: &Rules, pool: &Pool) -> Result<Tex
     Ok(text)
 }
 
-fn print_egd(alloc: Global, egd: &Egd, rules: &Rules, pool: &Pool) -> Result<Text, Memory>
+/// An egd's canonical line, with its line feed.
+pub fn print_egd(alloc: Global, egd: &Egd, rules: &Rules, pool: &Pool) -> Result<Text, Memory>
     requires valid { IsEgd rules.now.targets egd.now }
     requires body { AreTextual pool.now (λ text. ⊤) egd.now.body }
     ensures { IfOk result (λ text. text ≡ egd_text pool.now rules.now egd.now) }
@@ -85,7 +87,8 @@ fn print_egd(alloc: Global, egd: &Egd, rules: &Rules, pool: &Pool) -> Result<Tex
     Ok(text)
 }
 
-fn print_query(alloc: Global, query: &Query, rules: &Rules, pool: &Pool) -> Result<Text, Memory>
+/// A query's canonical line, with its line feed.
+pub fn print_query(alloc: Global, query: &Query, rules: &Rules, pool: &Pool) -> Result<Text, Memory>
     requires valid { IsQuery rules.now.targets query.now }
     requires bodies { All (λ branch. AreTextual pool.now (λ text. ⊤) branch.body) query.now.branches }
     ensures { IfOk result (λ text. text ≡ query_text pool.now rules.now query.now) }
