@@ -1,7 +1,10 @@
 use Rattle.std.proofs.Common.{◌≡◌, ◌+◌, ◌++◌, [], ◌∷◌, ap, sym, ◌∙◌, subst, take}
 use Rattle.std.proofs.lemmas.List.{take_more, take_all}
 use Rattle.rule_core.specs.declared.rules.Tgd.{Tgd}
-use Rattle.rule_core.specs.Copy.{IsCopying, IsSafe}
+use Rattle.rule_core.specs.Copy.{IsCopying, IsSafe, CopiesInto}
+use Rattle.rule_core.specs.Validity.{IsValid}
+use Rattle.exchange_cli.specs.Copying.{AddsCover}
+use Rattle.mapping_core.specs.Mapping.{Meaning}
 use Rattle.std.specs.Prelude.{List}
 use Rattle.exchange_cli.specs.Target.{text_in}
 use Rattle.exchange_cli.proofs.CopyLemmas.{CoversCopies, covers_no_copies, covers_more_copies, at_item}
@@ -10,7 +13,7 @@ use Rattle.exchange_cli.proofs.copying.copied_rows.Goals.{After-as_slice-tgd-ite
 
 -- the rules that the loop goes through
 tgds_are : (c : After-as_slice-tgd-items) → c.as_slice-tgd-items.result.now ≡ c.args.mapping.now.rules.tgds
-tgds_are c = c.as_slice-tgd-items.ensures ∙ c.tgds.ensures
+tgds_are c = c.as_slice-tgd-items.ensures ∙ c.tgds.ensures ∙ ap (λ (m : Meaning). m.rules.tgds) c.mapping.view_is
 
 pub loop-tgd-init : goal.loop-tgd-init
 loop-tgd-init c = rw c.new-rows.ensures (covers_no_copies (text_in c.args.mapping.now.pool) c.args.tables.now c.args.relation)
@@ -27,7 +30,9 @@ loop-tgd-preserved c =
     take_more tgds i tgd within ∙ ap (λ g. take i tgds ++ g ∷ []) (sym here) in
     subst (λ (l : List Tgd). CoversCopies name c.args.tables.now c.args.relation l c.add_copies.new.rows) (sym more)
     (covers_more_copies name c.args.tables.now c.args.relation (take i tgds) tgd c.loop-tgd.rows c.add_copies.new.rows
-    c.loop-tgd.invariant c.in_ok-add_copies.ensures)
+    c.loop-tgd.invariant
+    (subst (λ (m : Meaning). AddsCover (CopiesInto (text_in m.pool) tgd c.args.tables.now c.args.relation) c.loop-tgd.rows c.add_copies.new.rows)
+    c.mapping.view_is c.in_ok-add_copies.ensures))
 
 pub add_copies-requires-clause-copies : goal.add_copies-requires-clause-copies
 add_copies-requires-clause-copies c =
@@ -38,7 +43,8 @@ pub add_copies-requires-clause-safe : goal.add_copies-requires-clause-safe
 add_copies-requires-clause-safe c =
     at_item IsSafe c.as_slice-tgd-items.result.now c.loop-tgd.tgd-index c.tgd-item.result c.loop-tgd-test.true c.tgd-item.is
     (rw (tgds_are (goal.at.add_copies-requires-clause-safe c).After-as_slice-tgd-items)
-    (c.copying_rules_are_safe.ensures c.args.mapping.now.rules c.are_valid.ensures c.requires))
+    (c.copying_rules_are_safe.ensures c.args.mapping.now.rules
+    (subst (λ (m : Meaning). IsValid m.rules) c.mapping.view_is c.are_valid.ensures) c.requires))
 
 pub returns : goal.returns
 returns c =

@@ -1,4 +1,5 @@
 use Rattle.std.proofs.Common.{◌≡◌, ◌∙◌, ap, length, arith}
+use Rattle.mapping_core.specs.Mapping.{Meaning}
 use Rattle.exchange_cli.specs.Target.{text_in}
 use Rattle.exchange_cli.proofs.CopyLemmas.{none_copied, one_more_copied}
 use Rattle.exchange_cli.proofs.copying.copied_tables.Goals as goal
@@ -20,7 +21,8 @@ returns-clause-coalesced c = c.loop-relation.invariant.coalesced
 -- every relation was come to
 all_come : (c : After-loop-relation) → c.loop-relation.relation ≡ length c.args.mapping.now.rules.targets
 all_come c =
-    let counted : c.len-relation-end.result ≡ length c.args.mapping.now.rules.targets = c.len-relation-end.ensures ∙ ap length c.targets.ensures in
+    let counted : c.len-relation-end.result ≡ length c.args.mapping.now.rules.targets = c.len-relation-end.ensures ∙ ap length c.targets.ensures
+    ∙ ap (λ (m : Meaning). length m.rules.targets) c.mapping.view_is in
     omega (arith, counted)
 
 pub returns-clause-copied : goal.returns-clause-copied

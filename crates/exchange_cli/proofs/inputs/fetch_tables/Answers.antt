@@ -2,6 +2,7 @@
 use Rattle.std.proofs.Common.{◌≡◌, ◌+◌, ◌∷◌, refl, sym, ap, ◌∙◌, arith, drop}
 use Rattle.std.proofs.lemmas.Result.{err_from_is_err_and}
 use Rattle.std.proofs.lemmas.List.{drop_more, drop_all}
+use Rattle.mapping_core.specs.Mapping.{Meaning}
 use Rattle.exchange_cli.specs.Commands.{command_of}
 use Rattle.exchange_cli.specs.Run.{device}
 use Rattle.exchange_cli.specs.Steps.{ComesIn}
@@ -18,7 +19,7 @@ loop-relation-init g c = record {
 
 -- the relations that the loop goes through
 relations_are : (g : Over) (c : After-as_slice-relation-items g) → c.as_slice-relation-items.result.now ≡ c.args.mapping.now.rules.sources
-relations_are g c = c.as_slice-relation-items.ensures ∙ c.sources.ensures
+relations_are g c = c.as_slice-relation-items.ensures ∙ c.sources.ensures ∙ ap (λ (m : Meaning). m.rules.sources) c.mapping.view_is
 
 -- the relation of a turn is the first of those that are left
 goes_on_here : (g : Over) (c : After-relation-item g) → GoesOnIn (g.S.Shelf.holds c.args.shelf.now) c.args.command.now.source.now
