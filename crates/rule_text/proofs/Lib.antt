@@ -11,3 +11,9 @@ pub mod TgdLemmas
 pub mod EgdLemmas
 pub mod QueryLemmas
 mod CanonicalFacts
+pub mod LineLemmas
+pub mod LookupLemmas
+pub mod AtomSteps
+pub mod NameLemmas
+pub mod RuleLemmas
+pub mod QuerySteps

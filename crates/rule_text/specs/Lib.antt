@@ -3,3 +3,7 @@ pub mod Adding
 pub mod Canonical
 pub mod Constants
 pub mod Writable
+pub mod Frames
+pub mod Follows
+pub mod Sides
+pub mod Behind

@@ -1,7 +1,6 @@
 -- The line of a tgd, an egd or a query: the tests of each of its tokens.
-use Rattle.std.specs.Prelude.{◌≡◌, ◌≢◌, ◌⊎◌, ℕ, ◌<◌, ◌≤◌, List, [], ◌∷◌, ◌++◌, codes, length, take, All, Any, Contains, slice_get, Some, cond}
+use Rattle.std.specs.Prelude.{◌≡◌, ◌≢◌, ◌⊎◌, ℕ, ◌<◌, ◌≤◌, List, [], ◌∷◌, ◌++◌, codes, length, take, All, Any, Contains, slice_get, Some}
 use Rattle.std.specs.List.{AllZip}
-use Rattle.term_core.specs.declared.const_id.ConstId.{ConstId}
 use Rattle.rule_core.specs.declared.rules.Place.{Place}
 use Rattle.rule_core.specs.declared.rules.Place.TheVariants.{Source, Target}
 use Rattle.rule_core.specs.declared.rules.Relation.{Relation}
@@ -11,11 +10,11 @@ use Rattle.rule_core.specs.declared.rules.Atom.{Atom}
 use Rattle.rule_core.specs.declared.rules.Branch.{Branch}
 use Rattle.rule_core.specs.Mapping.{RuleSet}
 use Rattle.rule_core.specs.Adding.{relations_of, IsNewRuleName}
-use Rattle.decl_text.specs.declared.token.Kind.TheVariants.{Name, Quoted, LeftParen, RightParen, Comma, Colon, Arrow, Equals, Bar}
+use Rattle.decl_text.specs.declared.token.Kind.TheVariants.{Quoted, LeftParen, RightParen, Comma, Colon, Arrow, Equals, Bar}
 use Rattle.decl_text.specs.declared.fault.Code.{Code}
 use Rattle.decl_text.specs.declared.fault.Code.TheVariants.{X5, X6, X7, X8, X9, U1, U2, U3, U4, U5, U6}
 use Rattle.decl_text.specs.declared.fault.MappingFault.{MappingFault}
-use Rattle.decl_text.specs.Tests.{Lexeme, Outcome, goes, Goes, Stops, When, Test, Leads, Fails}
+use Rattle.decl_text.specs.Tests.{Lexeme, Outcome, Goes, Stops, When, Test, Leads, Fails}
 use Rattle.decl_text.specs.Declaration.{IsKeyword, Named, EndsLine}
 use Rattle.rule_text.specs.declared.rule.Rule.{Rule}
 use Rattle.rule_text.specs.declared.rule.Rule.TheVariants.{Tgd, Egd, Query}

@@ -1,21 +1,26 @@
-//! The lines of tgds, egds and queries: a stand-in until they are read.
+//! A line that states a rule.
 
-ghost use Rattle.std.specs.Prelude.{ℕ, ◌≤◌, length, IfOk};
-ghost use Rattle.rule_core.specs.Validity.{IsValid};
-ghost use Rattle.decl_text.specs.Tests.{IfFault};
+ghost use Rattle.std.specs.Prelude.{◌≤◌, length, IfOk};
 ghost use Rattle.decl_text.specs.TokenList.{KnowsTexts};
+ghost use Rattle.decl_text.specs.Tests.{IfFault};
+ghost use Rattle.rule_core.specs.Validity.{IsValid};
 ghost use Rattle.rule_text.specs.Adding.{with_rule};
 ghost use Rattle.rule_text.specs.RuleLine.{IsRule, FailsRule};
 
 use crate::Rule;
-use decl_text::ReadError;
+use crate::egd::read_egd;
+use crate::laws::what_is_read_fits;
+use crate::query::read_query;
+use crate::tgd::read_tgd;
+use decl_text::{Code, ReadError, fault_at, is_word, read_token};
 use rule_core::Rules;
 use std::alloc::Global;
 use term_core::Pool;
 
-/// A line that begins with `tgd`, `egd` or `query`: the rule, and the place after the line.
+/// A line that begins with `tgd`, `egd` or `query`: the rule, and the place after the line. The rule may be added to
+/// the rules. A fault is the first of the line, at its byte.
 pub fn read_rule(
-    _alloc: Global,
+    alloc: Global,
     bytes: &[u8],
     from: usize,
     rules: &Rules,
@@ -23,14 +28,44 @@ pub fn read_rule(
 ) -> Result<(Rule, usize), ReadError>
     requires place { from ≤ length bytes.now }
     requires known { KnowsTexts bytes.now from pool.now }
-    ensures states { IfOk result (λ line. IsRule bytes.now rules.now pool.now from line.0 line.1) }
+    ensures states { IfOk result
+        (λ line. IsRule bytes.now rules.now pool.now from line.0 line.1) }
     ensures fits { IfOk result (λ line. IsValid (with_rule rules.now line.0)) }
     ensures within { IfOk result (λ line. line.1 ≤ length bytes.now) }
     ensures fault { IfFault result (FailsRule bytes.now rules.now pool.now from) }
 {
-    let _ = bytes.len();
-    let _ = from;
     rules.are_valid();
-    let _ = pool.len();
-    Err(ReadError::Memory)
+    what_is_read_fits();
+    read_line(alloc, bytes, from, rules, pool)
+}
+
+// The line, without a word on whether its rule fits.
+fn read_line(
+    alloc: Global,
+    bytes: &[u8],
+    from: usize,
+    rules: &Rules,
+    pool: &Pool,
+) -> Result<(Rule, usize), ReadError>
+    requires place { from ≤ length bytes.now }
+    requires known { KnowsTexts bytes.now from pool.now }
+    ensures states { IfOk result
+        (λ line. IsRule bytes.now rules.now pool.now from line.0 line.1) }
+    ensures within { IfOk result (λ line. line.1 ≤ length bytes.now) }
+    ensures fault { IfFault result (FailsRule bytes.now rules.now pool.now from) }
+{
+    let token = read_token(bytes, from)?;
+    if is_word(bytes, &token, b"tgd") {
+        let (tgd, end) = read_tgd(alloc, bytes, token.end, rules, pool)?;
+        return Ok((Rule::Tgd(tgd), end));
+    }
+    if is_word(bytes, &token, b"egd") {
+        let (egd, end) = read_egd(alloc, bytes, token.end, rules, pool)?;
+        return Ok((Rule::Egd(egd), end));
+    }
+    if is_word(bytes, &token, b"query") {
+        let (query, end) = read_query(alloc, bytes, token.end, rules, pool)?;
+        return Ok((Rule::Query(query), end));
+    }
+    Err(fault_at(Code::X5, &token))
 }
