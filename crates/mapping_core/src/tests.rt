@@ -156,7 +156,7 @@ struct Listed {
 }
 
 // The text with so many items.
-fn listed(alloc: Global, row: &Listed, count: usize) -> Result<String, Fail> {
+fn text_of(alloc: Global, row: &Listed, count: usize) -> Result<String, Fail> {
     let mut text = String::from_str(alloc, row.before)?;
     for i in 0..count {
         if i > 0 {
@@ -306,13 +306,13 @@ fn limits_of_lists(rt: HostRuntime) -> Result<(), Fail> {
         },
     ];
     for row in rows {
-        let text = listed(rt.alloc(), &row, row.most)?;
+        let text = text_of(rt.alloc(), &row, row.most)?;
         assert!(rt; read(rt.alloc(), text.as_bytes()).is_ok(), "{text}");
         let place = text
             .len()
             .saturating_sub(row.after.len())
             .saturating_add(row.token);
-        let longer = listed(rt.alloc(), &row, row.most.saturating_add(1))?;
+        let longer = text_of(rt.alloc(), &row, row.most.saturating_add(1))?;
         assert_eq!(rt;
             fault_of(rt.alloc(), longer.as_bytes()),
             Some(MappingFault { code: U6, place }),
@@ -339,9 +339,9 @@ fn limits_of_texts(rt: HostRuntime) -> Result<(), Fail> {
             most,
             token: 0,
         };
-        let text = listed(rt.alloc(), &row, most)?;
+        let text = text_of(rt.alloc(), &row, most)?;
         assert!(rt; read(rt.alloc(), text.as_bytes()).is_ok(), "{before}");
-        let longer = listed(rt.alloc(), &row, most.saturating_add(1))?;
+        let longer = text_of(rt.alloc(), &row, most.saturating_add(1))?;
         assert_eq!(rt;
             fault_of(rt.alloc(), longer.as_bytes()),
             Some(MappingFault { code: U6, place }),
