@@ -1,0 +1,5 @@
+pub mod EndLemmas
+pub mod InsideLemmas
+pub mod CutLemmas
+pub mod CellLemmas
+pub mod SnapshotLemmas
