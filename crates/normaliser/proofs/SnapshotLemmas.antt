@@ -31,6 +31,14 @@ from_facts (f ∷ fs) e c = ⊎_elim
     (λ (d : Contains (facts_of (rows_of fs)) e). let h = from_facts fs e d in (h.0, Contains-cons f h.0 fs h.1, h.2))
     (Contains-cons_cases (fact_of (row_of f)) e (facts_of (rows_of fs)) c)
 
+-- facts with one relation and one row are one fact with terms
+same_row : (a b : Fact) (e : StampedOf (FactOf ConstId)) (fact : FactOf ConstId) → b.relation ≡ a.relation → b.row ≡ a.row
+    → fact_of (row_of a) ≡ e → e.row ≡ fact → (fact_of (row_of b)).row ≡ fact
+same_row a b e fact relation row stamped at =
+    let alike : (fact_of (row_of b)).row ≡ (fact_of (row_of a)).row =
+    λ i. record { relation = relation i; terms = map seen_term (map Const (row i)) } in
+    alike ∙ ap (λ (s : StampedOf (FactOf ConstId)). s.row) stamped ∙ at
+
 -- where one table holds what another does, its snapshot has the other's facts
 pub snapshot_moves : (a b : List Fact) (t : ℤ) → ((relation : ℕ) (row : List ConstId) → HasAt a relation row t → HasAt b relation row t)
     → (fact : FactOf ConstId) → Contains (snapshot_of a t) fact → Contains (snapshot_of b t) fact
@@ -40,10 +48,7 @@ snapshot_moves a b t moves fact c =
     let has : Has f.0.span t = subst (λ (e : StampedOf (FactOf ConstId)). Has e.span t) (sym f.2) h.4.1 in
     let g = moves f.0.relation f.0.row (f.1.0, f.0, f.1.1, f.1.2, (refl, refl, has)) in
     let d = in_facts b g.1 (g.0, g.2, g.3) in
-    let alike : (fact_of (row_of g.1)).row ≡ (fact_of (row_of f.0)).row =
-    λ i. record { relation = g.4.0 i; terms = map seen_term (map Const (g.4.1 i)) } in
-    let stamped : (fact_of (row_of f.0)).row ≡ h.1.row = ap (λ (e : StampedOf (FactOf ConstId)). e.row) f.2 in
-    let same : (fact_of (row_of g.1)).row ≡ fact = alike ∙ stamped ∙ h.4.0 in
+    let same = same_row f.0 g.1 h.1 fact g.4.0 g.4.1 f.2 h.4.0 in
     subst (Contains (snapshot_of b t)) same
     (covered_in_snapshot (facts_of (rows_of b)) (fact_of (row_of g.1)).row t (d.0, fact_of (row_of g.1), d.1, d.2, (refl, g.4.2)))
 
