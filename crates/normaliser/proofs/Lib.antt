@@ -3,3 +3,4 @@ pub mod InsideLemmas
 pub mod CutLemmas
 pub mod CellLemmas
 pub mod SnapshotLemmas
+pub mod NormalisedFacts
