@@ -1,0 +1,3 @@
+pub mod Normalised
+pub mod Ends
+pub mod Cut
