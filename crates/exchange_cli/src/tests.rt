@@ -184,46 +184,6 @@ fn solved_runs_store_the_target(rt: HostRuntime) -> Result<(), Fail> {
     Ok(())
 }
 
-// Two source relations and three target relations, one of which no rule fills; and the mapping without any line.
-#[test]
-fn each_target_relation_has_a_file(rt: HostRuntime) -> Result<(), Fail> {
-    let mapping = b"source A(x)\nsource C(x, y)\ntarget B(x, y)\ntarget D(x)\ntarget E(x)\n\
-        tgd a: C(x, y) -> B(y, x)\ntgd b: A(x) -> B(x, x)\ntgd c: C(x, x) -> D(x)\n"
-        .as_slice();
-    let tables: [(&str, &[u8]); 2] = [
-        ("src/A.csv", b"x,start,end\np,1,4\n"),
-        ("src/C.csv", b"x,y,start,end\np,p,3,9\np,q,1,2\n"),
-    ];
-    let run = ran_on(rt.alloc(), &WORDS, mapping, &tables, 0)?;
-    assert_eq!(rt; run.status, 0);
-    let stored: [(&str, &[u8]); 3] = [
-        ("out/B.csv", b"x,y,start,end\np,p,1,9\nq,p,1,2\n"),
-        ("out/D.csv", b"x,start,end\np,3,9\n"),
-        ("out/E.csv", b"x,start,end\n"),
-    ];
-    for (name, bytes) in stored {
-        assert_eq!(rt; run.shelf.get(name), Some(bytes), "{name}");
-    }
-    let second = ran_on(rt.alloc(), &WORDS, mapping, &tables[..1], 0)?;
-    assert_eq!(rt;
-        second.err.text(),
-        b"refused: missing src/C.csv\n".as_slice()
-    );
-    let none = ran_on(rt.alloc(), &WORDS, b"", &tables, 2)?;
-    assert_eq!(rt;
-        none.err.text(),
-        b"fault: write out/verdict.txt\n".as_slice()
-    );
-    let empty = ran_on(rt.alloc(), &WORDS, b"", &tables, 0)?;
-    assert_eq!(rt; empty.status, 0);
-    assert_eq!(rt;
-        empty.shelf.get("out/verdict.txt"),
-        Some(b"solved\n".as_slice())
-    );
-    assert_eq!(rt; empty.shelf.get("out/B.csv"), None);
-    Ok(())
-}
-
 // A store that fails ends the run: the files before it are whole.
 #[test]
 fn a_failed_store_ends_the_run(rt: HostRuntime) -> Result<(), Fail> {
