@@ -20,10 +20,11 @@ use rule_text::{Rule, read_rule};
 use std::alloc::Global;
 use term_core::{Memory, Pool, PoolBuilder};
 
-/// The mapping of a text, or the first fault of the text, at its byte.
+/// The mapping of a text, or the first fault of the text, at its byte. A mapping has no more constants than its text has bytes.
 pub fn read_mapping(alloc: Global, bytes: &[u8]) -> Result<Mapping, ReadError>
     requires { length bytes.now < 4294967295 }
     ensures mapping { IfOk result (IsMapping bytes.now) }
+    ensures few { IfOk result (λ mapping. length mapping.pool ≤ length bytes.now) }
     ensures fault { IfFault result (IsFirstFault bytes.now) }
 {
     let pool = read_pool(alloc, bytes)?;
@@ -34,7 +35,8 @@ pub fn read_mapping(alloc: Global, bytes: &[u8]) -> Result<Mapping, ReadError>
 // The texts that stand in quotes before the first fault of a token.
 fn read_pool(alloc: Global, bytes: &[u8]) -> Result<Pool, Memory>
     requires { length bytes.now < 4294967295 }
-    ensures { IfOk result (IsPoolOf bytes.now) }
+    ensures pool { IfOk result (IsPoolOf bytes.now) }
+    ensures few { IfOk result (λ pool. length pool ≤ length bytes.now) }
 {
     let mut texts = PoolBuilder::new(alloc);
     let mut from = 0;

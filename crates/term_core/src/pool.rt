@@ -64,6 +64,7 @@ impl PoolBuilder {
     pub fn finish(self) -> Result<Pool, Memory>
         ensures has { IfOk result (λ pool. (t : List ℕ) → Contains pool t ↔ Contains self t) }
         ensures pool { IfOk result (λ pool. IsPool pool) }
+        ensures few { IfOk result (λ pool. length pool ≤ length self) }
     {
         let PoolBuilder { texts, alloc } = self;
         let texts = in_order(texts, alloc)?;
@@ -77,6 +78,7 @@ fn in_order(mut texts: IndexSet<String>, alloc: Global) -> Result<Vec<String>, M
     ensures has { IfOk result (λ list. (t : List ℕ)
         → Contains (map (λ t. string_bytes t) list.items) t ↔ Contains (map (λ t. string_bytes t) texts.keys) t) }
     ensures pool { IfOk result (λ list. IsPool (map (λ t. string_bytes t) list.items)) }
+    ensures few { IfOk result (λ list. length list.items ≤ length texts.keys) }
 {
     texts.sort_unstable()?;
     list_of(texts, alloc)

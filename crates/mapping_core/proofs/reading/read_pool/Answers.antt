@@ -1,17 +1,18 @@
 use Rattle.std.proofs.Common.{◌≡◌, ◌≢◌, arith, rules}
+use Rattle.std.proofs.lemmas.Result.{IfOk-weaker}
 use Rattle.decl_text.specs.declared.token.Kind.TheVariants.{Finish}
 use Rattle.mapping_core.proofs.PoolLemmas.{Gathers-step, pool_of}
 use Rattle.mapping_core.proofs.QuotedLemmas.{quoted_no_fault, quoted_no_finish, AtEnd-finish, token_forward}
 use Rattle.mapping_core.proofs.reading.read_pool.Goals as goal
 
-pub returns-in_default : goal.returns-in_default
-returns-in_default c =
+pub returns-in_default-clause-pool : goal.returns-in_default-clause-pool
+returns-in_default-clause-pool c =
     pool_of c.args.bytes.now c.loop-token.texts c.loop-token.from c.finish.result c.loop-token.invariant
     (λ text. quoted_no_fault c.args.bytes.now c.loop-token.from c.in_default.field-0 text c.in_default.ensures.fault) c.finish.ensures.has
     c.finish.ensures.pool
 
-pub returns-then-eq : goal.returns-then-eq
-returns-then-eq c =
+pub returns-then-eq-clause-pool : goal.returns-then-eq-clause-pool
+returns-then-eq-clause-pool c =
     let kind : c.in-Ok.token.kind ≡ Finish = search rules in
     pool_of c.args.bytes.now c.loop-token.texts c.loop-token.from c.finish-then-eq.result c.loop-token.invariant
     (λ text. quoted_no_finish c.args.bytes.now c.loop-token.from text
@@ -31,3 +32,11 @@ loop-token-preserved c =
     let other : c.in-Ok.token.kind ≢ Finish = search rules in
     Gathers-step c.args.bytes.now c.loop-token.texts c.add_quoted.new.texts c.loop-token.from c.in-Ok.token c.loop-token.invariant c.in-Ok.ensures.token
     other c.in_ok-add_quoted.ensures.has c.in_ok-add_quoted.ensures.few
+
+pub returns-in_default-clause-few : goal.returns-in_default-clause-few
+returns-in_default-clause-few c = IfOk-weaker c.finish.result _ _
+    (λ pool few. omega (arith, few, c.loop-token.invariant.few, c.loop-token.invariant.within)) c.finish.ensures.few
+
+pub returns-then-eq-clause-few : goal.returns-then-eq-clause-few
+returns-then-eq-clause-few c = IfOk-weaker c.finish-then-eq.result _ _
+    (λ pool few. omega (arith, few, c.loop-token.invariant.few, c.loop-token.invariant.within)) c.finish-then-eq.ensures.few

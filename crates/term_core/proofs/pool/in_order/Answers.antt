@@ -18,3 +18,8 @@ returns-clause-pool c = IfOk-weaker c.list_of.result (λ list. list.items ≡ c.
       few = omega (arith, length-map c.sort_unstable.new.self.keys (λ k. string_bytes k), c.in_ok-sort_unstable.ensures.reordered.1, c.requires);
     }))
     c.list_of.ensures
+
+pub returns-clause-few : goal.returns-clause-few
+returns-clause-few c = IfOk-weaker c.list_of.result (λ list. list.items ≡ c.sort_unstable.new.self.keys) _
+    (λ list made. rw made (omega (arith, c.in_ok-sort_unstable.ensures.reordered.1)))
+    c.list_of.ensures
