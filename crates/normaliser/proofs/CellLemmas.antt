@@ -14,7 +14,7 @@ use Rattle.fact_table.specs.Rows.{SeenRow, row_at, row_of, rows_of}
 use Rattle.body_match.specs.Matches.{seen_value, IsImage, IsImageAt, HoldsAt}
 use Rattle.body_match.proofs.SearchLemmas.{some_and, and_some, same_some}
 use Rattle.normaliser.specs.Normalised.{AreEqualInTime, AreDisjointInTime, IsEqualOrDisjoint}
-use Rattle.normaliser.specs.Ends.{IsEndOf}
+use Rattle.normaliser.specs.Normalised.{IsEndOf}
 use Rattle.normaliser.specs.Cut.{IsCutPiece, AddsPieces, IsCell, AreCut}
 use Rattle.normaliser.proofs.InsideLemmas.{same_span, equal_or_apart}
 use Rattle.normaliser.proofs.CutLemmas.{holds_more}

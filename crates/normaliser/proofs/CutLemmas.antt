@@ -8,7 +8,8 @@ use Rattle.std.proofs.lemmas.List.Elements.{All-nil, All-push, All-contains, All
 use Rattle.time_line.specs.Span.{Ends, Has, IsInside, AreParts}
 use Rattle.fact_table.specs.declared.fact.Fact.{Fact}
 use Rattle.fact_table.specs.Facts.{HasAt}
-use Rattle.normaliser.specs.Ends.{IsEndOf, AreInOrder}
+use Rattle.normaliser.specs.Normalised.{IsEndOf}
+use Rattle.normaliser.specs.Ends.{AreInOrder}
 use Rattle.normaliser.specs.Cut.{IsCutPiece, ArePieces, over, IsCutOff, IsNotCut}
 use Rattle.normaliser.proofs.InsideLemmas.{inside_whole, before_ends, after_ends}
 

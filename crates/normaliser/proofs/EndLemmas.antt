@@ -15,7 +15,8 @@ use Rattle.std.specs.Ordering.{int_cmp, int_eq, eq_by_cmp}
 use Rattle.std.specs.List.{dedup}
 use Rattle.fact_table.specs.declared.fact.Fact.{Fact}
 use Rattle.time_line.specs.Span.{IsWithinLimit}
-use Rattle.normaliser.specs.Ends.{IsEndOf, IsEndIn, AreInOrder, AreWithinLimit, AreEnds, AddsEnd}
+use Rattle.normaliser.specs.Normalised.{IsEndOf}
+use Rattle.normaliser.specs.Ends.{IsEndIn, AreInOrder, AreWithinLimit, AreEnds, AddsEnd}
 
 -- with the ends of one more fact
 pub ends_more : (facts : List Fact) (fact : Fact) (a b c : List ℤ) → ((m : ℤ) → Contains a m ↔ IsEndIn facts m)

@@ -8,7 +8,8 @@ use lib.Signed.{≤ℤ_refl}
 use Rattle.time_line.specs.Span.{Ends, IsFrom, IsBefore, Has, AreApart, IsInside, AreParts, span_cmp}
 use Rattle.time_line.specs.SpanOrder.{span_cmp-total}
 use Rattle.body_match.proofs.EndsLemmas.{same_ends}
-use Rattle.normaliser.specs.Ends.{IsEndOf, is_up_to_start, is_before_stop}
+use Rattle.normaliser.specs.Normalised.{IsEndOf}
+use Rattle.normaliser.specs.Ends.{is_up_to_start, is_before_stop}
 
 IsFrom-later : (lo : Option ℤ) (s t : ℤ) → s ≤ℤ t → IsFrom lo s → IsFrom lo t
 IsFrom-later None s t h f = tt

@@ -3,8 +3,7 @@ use Rattle.std.specs.Prelude.{◌≡◌, ◌⊎◌, ℤ, List, [], ◌∷◌, �
 use Rattle.time_line.specs.Span.{Ends, Has, IsInside, AreParts}
 use Rattle.fact_table.specs.declared.fact.Fact.{Fact}
 use Rattle.fact_table.specs.Facts.{HasAt}
-use Rattle.normaliser.specs.Normalised.{IsPieceOf, IsPieceIn}
-use Rattle.normaliser.specs.Ends.{IsEndOf}
+use Rattle.normaliser.specs.Normalised.{IsPieceOf, IsPieceIn, IsEndOf}
 
 -- none of the ends is strictly inside the span
 abbrev pub IsUncut : List ℤ → Ends → Type 0

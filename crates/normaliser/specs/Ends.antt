@@ -2,10 +2,7 @@
 use Rattle.std.specs.Prelude.{◌≡◌, ◌⊎◌, ◌↔◌, ℤ, ◌<ℤ◌, Bool, true, false, int_le, int_lt, List, Option, Some, None, All, AllPairs, Contains}
 use Rattle.time_line.specs.Span.{Ends, IsWithinLimit}
 use Rattle.fact_table.specs.declared.fact.Fact.{Fact}
-
--- the number is where the span starts or where it stops
-abbrev pub IsEndOf : Ends → ℤ → Type 0
-IsEndOf span m = (span.lo ≡ Some m) ⊎ (span.hi ≡ Some m)
+use Rattle.normaliser.specs.Normalised.{IsEndOf}
 
 -- the number is an end of a fact of the list
 abbrev pub IsEndIn : List Fact → ℤ → Type 0

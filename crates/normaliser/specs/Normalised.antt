@@ -1,5 +1,5 @@
 -- What cutting the facts of a table keeps, and what it gives to the rules.
-use Rattle.std.specs.Prelude.{◌≡◌, ◌⊎◌, ◌↔◌, ℕ, ℤ, List, Option, IsSomeAnd, All, Contains}
+use Rattle.std.specs.Prelude.{◌≡◌, ◌⊎◌, ◌↔◌, ℕ, ℤ, List, Option, Some, IsSomeAnd, All, Contains}
 use Rattle.std.specs.List.{AllZip}
 use Rattle.time_line.specs.Span.{Ends, Has}
 use Rattle.term_core.specs.declared.const_id.ConstId.{ConstId}
@@ -43,6 +43,10 @@ AreEqualInTime rows numbers = (span : Ends) × All (λ number. IsSomeAnd (row_at
 -- the spans of the rows have no instant in common
 abbrev pub AreDisjointInTime : List (Option SeenRow) → List ℕ → Type 0
 AreDisjointInTime rows numbers = (t : ℤ) → ¬ (All (HoldsAt rows t) numbers)
+
+-- the number is where the span starts or where it stops
+abbrev pub IsEndOf : Ends → ℤ → Type 0
+IsEndOf span m = (span.lo ≡ Some m) ⊎ (span.hi ≡ Some m)
 
 -- in every match of a tgd's body, with time ignored, the spans are all equal or have no instant in common
 abbrev pub IsEqualOrDisjoint : RuleSet → List Fact → Type 0
