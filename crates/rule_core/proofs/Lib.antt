@@ -3,14 +3,17 @@ pub mod SnapshotLemmas
 pub mod CoalescedLemmas
 pub mod OrderLemmas
 pub mod HomomorphismLemmas
-pub mod CopyLemmas
-pub mod ConstantLemmas
-pub mod TableLemmas
+pub mod SetLemmas
+pub mod ToldLemmas
+pub mod RowOrderLemmas
 pub mod ValidityLemmas
 pub mod RebaseLemmas
+pub mod RenumberLemmas
 pub mod FrontierLemmas
 pub mod FiringLemmas
 pub mod NumberingLemmas
+pub mod RenamingLemmas
+pub mod PoolRenaming
 mod DefinitionFacts
 mod WorkedFacts
 mod FiringFacts

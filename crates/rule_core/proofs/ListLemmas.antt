@@ -104,9 +104,19 @@ All-from_map P f [] h k d l = absurd (omega arith)
 All-from_map P f (x ∷ xs) h zero d l = All-head P (f x) (map f xs) h
 All-from_map P f (x ∷ xs) h (suc k) d l = All-from_map P f xs (All-tail P (f x) (map f xs) h) k d (omega arith)
 
+-- what holds of each member that another fact holds of
+pub All-members : {X : Type 0} (P Q : X → Type 0) (xs : List X) → ((x : X) → Contains xs x → P x → Q x) → All P xs → All Q xs
+All-members P Q xs f h k d l = f (get_or xs k d) (Contains-get_or xs k d l) (h k d l)
+
 -- pairs as they are in one relation are in another
 pub AllPairs-weaker : {X : Type 0} (R S : X → X → Type 0) → ((a b : X) → R a b → S a b) → (xs : List X) → AllPairs R xs → AllPairs S xs
 AllPairs-weaker R S f xs pairs i j d h l = f (get_or xs i d) (get_or xs j d) (pairs i j d h l)
+
+-- and so they are, if that follows for members
+pub AllPairs-members_weaker : {X : Type 0} (R S : X → X → Type 0) (xs : List X)
+    → ((a b : X) → Contains xs a → Contains xs b → R a b → S a b) → AllPairs R xs → AllPairs S xs
+AllPairs-members_weaker R S xs f pairs i j d h l =
+    f (get_or xs i d) (get_or xs j d) (Contains-get_or xs i d (omega (arith, h, l))) (Contains-get_or xs j d l) (pairs i j d h l)
 
 -- of two members, one stands before the other, or they are the same
 pub AllPairs-members : {X : Type 0} (R : X → X → Type 0) (xs : List X) → AllPairs R xs → (a b : X) → Contains xs a → Contains xs b

@@ -1,12 +1,12 @@
 -- Two worked examples of exchange, held against the definitions.
-use Rattle.std.proofs.Common.{◌≡◌, ◌⊎◌, ◌↔◌, ℕ, zero, suc, ◌<◌, ◌==◌, cond, ℤ, pos, ◌≤ℤ◌, ◌<ℤ◌, Option, Some, None, List, [], ◌∷◌, map, get_or}
-use Rattle.std.proofs.Common.{refl, sym, ap, ◌∙◌, subst, inl, inr, arith, codes, AllPairs, Contains}
+use Rattle.std.proofs.Common.{◌≡◌, ◌↔◌, ℕ, zero, suc, ◌<◌, ◌==◌, cond, ℤ, pos, ◌≤ℤ◌, ◌<ℤ◌, Option, Some, None, List, [], ◌∷◌, map, get_or}
+use Rattle.std.proofs.Common.{refl, sym, ap, subst, inl, inr, arith, codes, All, AllPairs, Contains}
 use Rattle.std.specs.declared.cmp.Ordering.{Ordering}
 use Rattle.std.specs.declared.cmp.Ordering.TheVariants.{Less}
 use Rattle.std.specs.Ordering.{nat_cmp}
 use Rattle.std.specs.Cmp.Lexicographic.{slice_cmp}
 use Rattle.std.proofs.lemmas.Int.{ints, by_lt_z}
-use Rattle.std.proofs.lemmas.List.Elements.{All-nil, All-cons, All-head}
+use Rattle.std.proofs.lemmas.List.Elements.{All-nil, All-cons, All-head, All-contains}
 use Rattle.term_core.specs.declared.const_id.ConstId.{ConstId}
 use Rattle.time_line.specs.Span.{Has, HasInstant}
 use Rattle.rule_core.specs.declared.rules.Relation.{Relation}
@@ -18,17 +18,13 @@ use Rattle.rule_core.specs.Terms.{numbered, TermOf, constant, unknown, FactOf, S
 use Rattle.rule_core.specs.Mapping.{RuleSet}
 use Rattle.rule_core.specs.Snapshot.{snapshot_at}
 use Rattle.rule_core.specs.Match.{image, Matches}
-use Rattle.rule_core.specs.Homomorphism.{fact_image, Homomorphism}
+use Rattle.rule_core.specs.Homomorphism.{term_image, fact_image, Homomorphism}
 use Rattle.rule_core.specs.Solution.{TgdHolds, EgdHolds, IsSolution, IsUniversal, HasSolution}
 use Rattle.rule_core.specs.Coalesced.{Covers, AreSeparate, stamped_cmp, IsCoalesced}
 use Rattle.rule_core.specs.Tables.{facts_of, as_terms}
-use Rattle.rule_core.specs.Copy.{CopiedRow, IsCopied, AreCopied, table_at}
 use Rattle.rule_core.proofs.ListLemmas.{Contains-nil, Contains-head, Contains-cons_cases}
-use Rattle.rule_core.proofs.CopyLemmas.{IsCopy, All-one, the_one}
-use Rattle.rule_core.proofs.TableLemmas.{copied_tables_are_universal}
-
-abbrev row : List ℕ → ℤ → ℤ → StampedOf (List (List ℕ))
-row text lo hi = record { row = text ∷ []; span = record { lo = Some lo; hi = Some hi } }
+use Rattle.rule_core.proofs.SnapshotLemmas.{snapshot_covers, covered_in_snapshot}
+use Rattle.rule_core.proofs.SetLemmas.{universal_same_sets}
 
 -- The first run: a mapping that copies A(x) to B(x), for
 --     a,1,3; a,3,5; b,-inf,2      which gives      a,1,5; b,-inf,2
@@ -54,115 +50,157 @@ copying = record {
   queries = [];
 }
 
-copying_copies : IsCopy 1 copy_rule
-copying_copies = (
-  first_of_x,
-  first_of_x,
-  record {
-    body = refl;
-    head = refl;
-    inside = omega arith;
-    first = λ v c. by v (Contains-cons_cases (Var 0) (Var v) [] c);
-    safe = λ v c. c;
-  },
-)
-  where
-    by : (v : ℕ) → (Var 0 ≡ Var v) ⊎ Contains [] (Var v) → v < 1
-    by v (inl e) = let same : 0 ≡ v = cc in omega arith
-    by v (inr c) = absurd (Contains-nil (Var v) c)
+abbrev during : {X : Type 0} → Option ℤ → Option ℤ → X → StampedOf X
+during lo hi x = record { row = x; span = record { lo = lo; hi = hi } }
 
-abbrev any_name : ConstId → List ℕ
-any_name id = []
+-- what is said of an entry is said of one that it equals
+entry_of : {X : Type 0} (z e : StampedOf X) (x : X) (t : ℤ) → z ≡ e → (e.row ≡ x) × Has e.span t → (z.row ≡ x) × Has z.span t
+entry_of {X} z e x t is h = subst (λ (y : StampedOf X). (y.row ≡ x) × Has y.span t) (sym is) h
 
-abbrev early_b : StampedOf (List (List ℕ))
-early_b = record { row = codes "b" ∷ []; span = record { lo = None; hi = Some (pos 2) } }
+-- both tables, of these two rows or facts
+module _ {X : Type 0} (a b : X) where
+  abbrev first_a : StampedOf X
+  first_a = during (Some (pos 1)) (Some (pos 3)) a
 
-abbrev source : List (StampedOf (List (List ℕ)))
-source = row (codes "a") (pos 1) (pos 3) ∷ row (codes "a") (pos 3) (pos 5) ∷ early_b ∷ []
+  abbrev second_a : StampedOf X
+  second_a = during (Some (pos 3)) (Some (pos 5)) a
 
-abbrev target : List (StampedOf (List (List ℕ)))
-target = row (codes "a") (pos 1) (pos 5) ∷ early_b ∷ []
+  abbrev whole_a : StampedOf X
+  whole_a = during (Some (pos 1)) (Some (pos 5)) a
 
--- the target covers what is copied
-target_is_copied : (r : List (List ℕ)) (t : ℤ) → Covers target r t → CopiedRow any_name first_of_x first_of_x source r t
-target_is_copied r t c = elim (Contains-cons_cases (row (codes "a") (pos 1) (pos 5)) c.1 (early_b ∷ []) (c.0, c.2, c.3)) [
-  | inl e ↦
-      let h = subst (λ (z : StampedOf (List (List ℕ))). Has z.span t) (sym e) c.4.1 in
-      let is : codes "a" ∷ [] ≡ r = ap (λ (z : StampedOf (List (List ℕ))). z.row) e ∙ c.4.0 in (
-        λ _. codes "a",
-        by_lt_z t (pos 3)
-            (λ below. (0, row (codes "a") (pos 1) (pos 3), omega arith, refl, (refl, (h.0, below))))
-            (λ from. (1, row (codes "a") (pos 3) (pos 5), omega arith, refl, (refl, (from, h.1)))),
-        is,
-      )
-  | inr d ↦ elim (Contains-cons_cases early_b c.1 [] d) [
+  abbrev early_b : StampedOf X
+  early_b = during None (Some (pos 2)) b
+
+  abbrev source_of : List (StampedOf X)
+  source_of = first_a ∷ second_a ∷ early_b ∷ []
+
+  abbrev target_of : List (StampedOf X)
+  target_of = whole_a ∷ early_b ∷ []
+
+  -- the target covers what the source does
+  source_in_target : (x : X) (t : ℤ) → Covers source_of x t → Covers target_of x t
+  source_in_target x t c = elim (Contains-cons_cases first_a c.1 (second_a ∷ early_b ∷ []) (c.0, c.2, c.3)) [
     | inl e ↦
-        let h = subst (λ (z : StampedOf (List (List ℕ))). Has z.span t) (sym e) c.4.1 in
-        (λ _. codes "b", (2, early_b, omega arith, refl, (refl, h)), ap (λ (z : StampedOf (List (List ℕ))). z.row) e ∙ c.4.0)
-    | inr n ↦ absurd (Contains-nil c.1 n)
-  ]
-]
-
-copied_is_target : (r : List (List ℕ)) (t : ℤ) → CopiedRow any_name first_of_x first_of_x source r t → Covers target r t
-copied_is_target r t copied = elim
-    (Contains-cons_cases (row (codes "a") (pos 1) (pos 3)) entry (row (codes "a") (pos 3) (pos 5) ∷ early_b ∷ []) found) [
+        let h = entry_of first_a c.1 x t e c.4 in
+        let below : t <ℤ pos 3 = h.1.1 in
+        let to : t <ℤ pos 5 = omega (arith, ints) in
+        (0, whole_a, omega arith, refl, (h.0, (h.1.0, to)))
+    | inr d ↦ elim (Contains-cons_cases second_a c.1 (early_b ∷ []) d) [
       | inl e ↦
-          let h = entry_has (row (codes "a") (pos 1) (pos 3)) e in
-          let below : t <ℤ pos 3 = h.1 in
-          let to : t <ℤ pos 5 = omega (arith, ints) in
-          (0, row (codes "a") (pos 1) (pos 5), omega arith, refl, (entry_is (row (codes "a") (pos 1) (pos 3)) e, (h.0, to)))
-      | inr d ↦ elim (Contains-cons_cases (row (codes "a") (pos 3) (pos 5)) entry (early_b ∷ []) d) [
-        | inl e ↦
-            let h = entry_has (row (codes "a") (pos 3) (pos 5)) e in
-            let above : pos 3 ≤ℤ t = h.0 in
-            let from : pos 1 ≤ℤ t = omega (arith, ints) in
-            (0, row (codes "a") (pos 1) (pos 5), omega arith, refl, (entry_is (row (codes "a") (pos 3) (pos 5)) e, (from, h.1)))
-        | inr k ↦ elim (Contains-cons_cases early_b entry [] k) [
-          | inl e ↦ (1, early_b, omega arith, refl, (entry_is early_b e, entry_has early_b e))
-          | inr n ↦ absurd (Contains-nil entry n)
-        ]
+          let h = entry_of second_a c.1 x t e c.4 in
+          let above : pos 3 ≤ℤ t = h.1.0 in
+          let from : pos 1 ≤ℤ t = omega (arith, ints) in
+          (0, whole_a, omega arith, refl, (h.0, (from, h.1.1)))
+      | inr k ↦ elim (Contains-cons_cases early_b c.1 [] k) [
+        | inl e ↦ (1, early_b, omega arith, refl, entry_of early_b c.1 x t e c.4)
+        | inr n ↦ absurd (Contains-nil c.1 n)
       ]
     ]
-  where
-    entry : StampedOf (List (List ℕ))
-    entry = copied.1.1
+  ]
 
-    found : Contains source entry
-    found = (copied.1.0, copied.1.2, copied.1.3)
+  target_in_source : (x : X) (t : ℤ) → Covers target_of x t → Covers source_of x t
+  target_in_source x t c = elim (Contains-cons_cases whole_a c.1 (early_b ∷ []) (c.0, c.2, c.3)) [
+    | inl e ↦
+        let h = entry_of whole_a c.1 x t e c.4 in
+        by_lt_z t (pos 3)
+        (λ below. (0, first_a, omega arith, refl, (h.0, (h.1.0, below))))
+        (λ from. (1, second_a, omega arith, refl, (h.0, (from, h.1.1))))
+    | inr d ↦ elim (Contains-cons_cases early_b c.1 [] d) [
+      | inl e ↦ (2, early_b, omega arith, refl, entry_of early_b c.1 x t e c.4)
+      | inr n ↦ absurd (Contains-nil c.1 n)
+    ]
+  ]
 
-    entry_has : (z : StampedOf (List (List ℕ))) → z ≡ entry → Has z.span t
-    entry_has z e = subst (λ (y : StampedOf (List (List ℕ))). Has y.span t) (sym e) copied.1.4.1
+  same_snapshots : (t : ℤ) (x : X) → Contains (snapshot_at source_of t) x ↔ Contains (snapshot_at target_of t) x
+  same_snapshots t x = (
+    λ c. covered_in_snapshot target_of x t (source_in_target x t (snapshot_covers source_of x t c)),
+    λ c. covered_in_snapshot source_of x t (target_in_source x t (snapshot_covers target_of x t c)),
+  )
 
-    entry_is : (z : StampedOf (List (List ℕ))) → z ≡ entry → z.row ≡ r
-    entry_is z e = ap (λ (y : StampedOf (List (List ℕ))). y.row) e ∙ copied.1.4.0 ∙ copied.2
+-- a fact of the first relation with this one term
+abbrev one : TermOf (List ℕ) → FactOf (List ℕ)
+one x = record { relation = 0; terms = x ∷ [] }
 
--- the target's table covers exactly what the one rule copies
-target_of_copies : AreCopied any_name copying (source ∷ []) (target ∷ [])
-target_of_copies = record { size = refl; each = each }
-  where
-    each : (relation : ℕ) → relation < 1 → (r : List (List ℕ)) (t : ℤ)
-        → Covers (table_at (target ∷ []) relation) r t ↔ IsCopied any_name (copy_rule ∷ []) (source ∷ []) relation r t
-    each zero inside r t = (
-      λ c. (0, copy_rule, omega arith, refl, (first_of_x, first_of_x, refl, refl, refl, target_is_copied r t c)),
-      λ rule. copied_is_target r t (given rule),
-    )
-      where
-        given : IsCopied any_name (copy_rule ∷ []) (source ∷ []) 0 r t → CopiedRow any_name first_of_x first_of_x source r t
-        given rule =
-            let is : copy_rule ≡ rule.1 = the_one copy_rule rule.1 (copy_rule ∷ []) refl (rule.0, rule.2, rule.3) in
-            let body : first_of_x ∷ [] ≡ rule.4.0 ∷ [] = ap (λ (g : Tgd). g.body) is ∙ rule.4.2 in
-            let head : first_of_x ∷ [] ≡ rule.4.1 ∷ [] = ap (λ (g : Tgd). g.head) is ∙ rule.4.3 in
-            let from : first_of_x ≡ rule.4.0 = cc in
-            let to : first_of_x ≡ rule.4.1 = cc in
-            subst (λ (a : Atom). CopiedRow any_name first_of_x a source r t) (sym to)
-            (subst (λ (a : Atom). CopiedRow any_name a rule.4.1 (table_at (source ∷ []) a.relation) r t) (sym from) rule.4.5)
-    each (suc k) inside r t = absurd (omega arith)
+abbrev IsOne : FactOf (List ℕ) → Type 0
+IsOne f = (x : TermOf (List ℕ)) × (one x ≡ f)
 
--- at every instant the target is universal
-first_run : (t : ℤ)
-    → IsUniversal any_name copying (snapshot_at (facts_of (as_terms source ∷ [])) t) (snapshot_at (facts_of (as_terms target ∷ [])) t)
-first_run t = copied_tables_are_universal any_name [] copying refl (All-one (IsCopy 1) copy_rule (copy_rule ∷ []) refl copying_copies)
-    (source ∷ []) (target ∷ []) target_of_copies t
+-- a term goes to itself where each unknown does
+kept : (x : TermOf (List ℕ)) → x ≡ term_image unknown x
+kept (constant k) = refl
+kept (unknown u) = refl
+
+abbrev source : List (StampedOf (List (List ℕ)))
+source = source_of (codes "a" ∷ []) (codes "b" ∷ [])
+
+abbrev target : List (StampedOf (List (List ℕ)))
+target = target_of (codes "a" ∷ []) (codes "b" ∷ [])
+
+module _ (name : ConstId → List ℕ) where
+  -- what the source holds, a solution holds
+  one_in_solution : (facts other : List (FactOf (List ℕ))) → IsSolution name copying facts other → (x : TermOf (List ℕ))
+      → Contains facts (one x) → Contains other (one x)
+  one_in_solution facts other s x c =
+      let m : Matches name (λ _. x) copy_rule.body facts =
+      All-cons (λ atom. Contains facts (image name (λ _. x) atom)) first_of_x [] c
+      (All-nil (λ atom. Contains facts (image name (λ _. x) atom))) in
+      let found = All-head (λ tgd. TgdHolds name tgd facts other) copy_rule [] s.tgds (λ _. x) m in
+      let there : Contains other (one (found.0 0)) = All-head (λ atom. Contains other (image name found.0 atom)) first_of_x [] found.2 in
+      subst (λ y. Contains other (one y)) (found.1 0 (omega arith)) there
+
+  -- facts of one term are a universal target of themselves
+  copied : (facts : List (FactOf (List ℕ))) → ((f : FactOf (List ℕ)) → Contains facts f → IsOne f) → IsUniversal name copying facts facts
+  copied facts each = record {
+    solution = record {
+      tgds = All-cons (λ tgd. TgdHolds name tgd facts facts) copy_rule [] (λ b m. (b, λ v l. refl, m))
+          (All-nil (λ tgd. TgdHolds name tgd facts facts));
+      egds = All-nil (λ egd. EgdHolds name egd facts);
+    };
+    maps = λ other s. record { of_unknown = unknown; into = λ f c. into other s f c (each f c).0 (each f c).1 };
+  }
+    where
+      into : (other : List (FactOf (List ℕ))) → IsSolution name copying facts other → (f : FactOf (List ℕ)) → Contains facts f
+          → (x : TermOf (List ℕ)) → one x ≡ f → Contains other (fact_image unknown f)
+      into other s f c x is =
+          let there = one_in_solution facts other s x (subst (λ g. Contains facts g) (sym is) c) in
+          subst (λ g. Contains other (fact_image unknown g)) is (subst (λ y. Contains other (one y)) (kept x) there)
+
+  -- at every instant the target is universal
+  first_run : (t : ℤ)
+      → IsUniversal name copying (snapshot_at (facts_of (as_terms source ∷ [])) t) (snapshot_at (facts_of (as_terms target ∷ [])) t)
+  first_run t = universal_same_sets name copying facts facts facts (snapshot_at (target_of a_fact b_fact) t)
+      (λ f. (λ c. c, λ c. c)) (same_snapshots a_fact b_fact t)
+      (copied facts (λ f c.
+      let covers = snapshot_covers (source_of a_fact b_fact) f t c in
+      subst IsOne covers.4.0 (All-contains (λ e. IsOne e.row) (source_of a_fact b_fact) covers.1 ones (covers.0, covers.2, covers.3))))
+    where
+      a_fact : FactOf (List ℕ)
+      a_fact = one (constant (codes "a"))
+
+      b_fact : FactOf (List ℕ)
+      b_fact = one (constant (codes "b"))
+
+      facts : List (FactOf (List ℕ))
+      facts = snapshot_at (source_of a_fact b_fact) t
+
+      is_a : IsOne a_fact
+      is_a = (constant (codes "a"), refl)
+
+      ones : All (λ e. IsOne e.row) (source_of a_fact b_fact)
+      ones =
+          All-cons (λ e. IsOne e.row) (first_a a_fact b_fact) (second_a a_fact b_fact ∷ early_b a_fact b_fact ∷ []) is_a
+          (All-cons (λ e. IsOne e.row) (second_a a_fact b_fact) (early_b a_fact b_fact ∷ []) is_a
+          (All-cons (λ e. IsOne e.row) (early_b a_fact b_fact) [] (constant (codes "b"), refl) (All-nil (λ e. IsOne e.row))))
+
+  -- an unknown of the source stays as it is in each solution
+  other_unknown : ¬ (IsSolution name copying (one (unknown (numbered 1)) ∷ []) (one (unknown (numbered 2)) ∷ []))
+  other_unknown s =
+      let was : FactOf (List ℕ) = one (unknown (numbered 1)) in
+      let told : FactOf (List ℕ) = one (unknown (numbered 2)) in
+      let c = one_in_solution (was ∷ []) (told ∷ []) s (unknown (numbered 1)) (Contains-head was []) in
+      elim (Contains-cons_cases told was [] c) [
+        | inl e ↦ let terms = ap (λ (f : FactOf (List ℕ)). f.terms) e in absurd cc
+        | inr n ↦ absurd (Contains-nil was n)
+      ]
 
 abbrev texts : List (List ℕ) → List (List ℕ) → Ordering
 texts = slice_cmp (slice_cmp nat_cmp)
@@ -177,18 +215,24 @@ pairs R x y p (suc i) j d h l = absurd (omega arith)
 not_b : ¬ (codes "a" ∷ [] ≡ codes "b" ∷ [])
 not_b e = let same : ◌≡◌ {A = ℕ} 97 98 = ap (λ (r : List (List ℕ)). get_or (get_or r 0 []) 0 0) e in omega arith
 
+-- the rows of the target
+abbrev whole : StampedOf (List (List ℕ))
+whole = whole_a (codes "a" ∷ []) (codes "b" ∷ [])
+
+abbrev early : StampedOf (List (List ℕ))
+early = early_b (codes "a" ∷ []) (codes "b" ∷ [])
+
 target_is_coalesced : IsCoalesced texts target
 target_is_coalesced = record {
-  spans = All-cons (λ entry. HasInstant entry.span) (row (codes "a") (pos 1) (pos 5)) (early_b ∷ [])
-      (pos 1, (omega (arith, ints), omega (arith, ints)))
-      (All-cons (λ entry. HasInstant entry.span) early_b [] (pos 0, (tt, omega (arith, ints))) (All-nil (λ entry. HasInstant entry.span)));
-  separate = pairs AreSeparate (row (codes "a") (pos 1) (pos 5)) early_b (λ e. absurd (not_b e));
-  ordered = pairs (λ a b. stamped_cmp texts a b ≡ Less) (row (codes "a") (pos 1) (pos 5)) early_b refl;
+  spans = All-cons (λ entry. HasInstant entry.span) whole (early ∷ []) (pos 1, (omega (arith, ints), omega (arith, ints)))
+      (All-cons (λ entry. HasInstant entry.span) early [] (pos 0, (tt, omega (arith, ints))) (All-nil (λ entry. HasInstant entry.span)));
+  separate = pairs AreSeparate whole early (λ e. absurd (not_b e));
+  ordered = pairs (λ a b. stamped_cmp texts a b ≡ Less) whole early refl;
 }
 
 -- the source is not: its first two records touch
 source_is_not_coalesced : ¬ (IsCoalesced texts source)
-source_is_not_coalesced c = (c.separate 0 1 early_b (omega arith) (omega arith) refl).1 (inl refl)
+source_is_not_coalesced c = (c.separate 0 1 early (omega arith) (omega arith) refl).1 (inl refl)
 
 -- Two matches of one frontier are one firing: a mapping of A(x, y) to B(x, z) for some z, where at an instant
 --     A holds a,1 and a,2      and B holds      a,?1

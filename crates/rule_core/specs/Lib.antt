@@ -11,6 +11,7 @@ pub mod Names
 pub mod Validity
 pub mod Adding
 pub mod Frontier
-pub mod Copy
 pub mod Rebase
 pub mod Firing
+pub mod Values
+pub mod Renaming
