@@ -1,0 +1,8 @@
+//! What a run leaves to show how it came to its end. So far: firings, with the matches that support them.
+#![tactic(auto)]
+
+mod firing;
+#[cfg(test)]
+mod tests;
+
+pub use firing::{Firing, Support};
