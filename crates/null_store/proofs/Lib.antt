@@ -1,0 +1,9 @@
+pub mod ListLemmas
+pub mod RowLemmas
+pub mod NameLemmas
+pub mod StoreLemmas
+pub mod FrontierLemmas
+pub mod PieceLemmas
+pub mod GrowthLemmas
+pub mod FiringLemmas
+pub mod SoundLemmas

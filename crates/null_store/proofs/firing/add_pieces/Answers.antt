@@ -1,0 +1,74 @@
+use Rattle.std.proofs.Common.{◌≡◌, ◌≢◌, ◌+◌, List, [], length, get_or, vec_capacity, refl, subst, sym, ap, ◌∙◌, arith}
+use Rattle.std.proofs.lemmas.Bool.{false≢true}
+use Rattle.std.proofs.lemmas.List.{append-nil, get_or-set_other}
+use Rattle.term_core.specs.declared.term.Seen.{Seen}
+use Rattle.term_core.specs.declared.term.Seen.TheVariants.{Piece}
+use Rattle.rule_core.specs.declared.rules.Atom.{Atom}
+use Rattle.rule_core.specs.Frontier.{Occurs}
+use Rattle.null_store.specs.Layout.{AddsPieces}
+use Rattle.null_store.proofs.PieceLemmas.{pieces_none, pieces_go_on, pieces_skipped}
+use Rattle.null_store.proofs.firing.add_pieces.Goals as goal
+use Rattle.null_store.proofs.firing.add_pieces.Goals.{then-occurs, else-occurs}
+
+pub loop-variable-init : goal.loop-variable-init
+loop-variable-init c =
+    let tgd = c.args.tgd.now in
+    record {
+      pieces = (
+        [],
+        sym (append-nil c.args.pieces.now.items),
+        pieces_none tgd c.args.name c.args.span c.args.pieces.now.items c.args.values.now tgd.body_vars (omega arith),
+      );
+      size = c.told-values;
+      others = λ v l. refl;
+      room = refl;
+    }
+
+pub loop-variable-preserved : goal.loop-variable-preserved
+loop-variable-preserved c =
+    let tgd = c.args.tgd.now in
+    let old = c.args.pieces.now.items in
+    let v = c.loop-variable.variable in
+    let before = c.loop-variable.invariant in
+    let more = before.pieces in
+    elim c.if-occurs.branch [
+      | then-occurs w ↦
+          let occurs = subst (λ (head : List Atom). Occurs head v) c.as_slice.ensures (c.occurs.ensures.0 w.if-occurs.true) in
+          let exists = c.loop-variable.auto.variable in
+          record {
+            pieces = pieces_go_on tgd c.args.name c.args.span old more.0 c.loop-variable.pieces.items c.if-occurs.pieces.items
+                c.loop-variable.values c.if-occurs.values v w.len.result exists
+                (omega (arith, before.size, c.requires.few, c.loop-variable-test.true, c.len-variable-end.ensures)) occurs more.2 more.1
+                (omega (arith, w.len.ensures, c.loop-variable.pieces.ok.0)) ((λ i. (w.pieces-is i).items) ∙ w.push_reserved.ensures.items)
+                w.values-is;
+            size = c.if-occurs.array_long;
+            others = λ u l. let other : u ≢ v = omega (arith, l, exists) in
+                ap (λ (vs : List Seen). get_or vs u (Piece 0)) w.values-is
+                ∙ get_or-set_other c.loop-variable.values v u (Piece w.len.result) (Piece 0) other ∙ before.others u l;
+            room = (λ i. vec_capacity (w.pieces-is i)) ∙ w.push_reserved.ensures.capacity ∙ before.room;
+          }
+      | else-occurs w ↦
+          let none : ¬ (Occurs tgd.head v) = λ o. false≢true (sym w.if-occurs.false ∙ c.occurs.ensures.1
+          (subst (λ (head : List Atom). Occurs head v) (sym c.as_slice.ensures) o)) in
+          record {
+            pieces = (
+              more.0,
+              (λ i. (w.pieces-is i).items) ∙ more.1,
+              subst (λ (vs : List Seen). AddsPieces tgd c.args.name c.args.span old more.0 vs (v + 1)) (sym w.values-is)
+                  (pieces_skipped tgd c.args.name c.args.span old more.0 c.loop-variable.values v c.loop-variable.auto.variable more.2
+                  none),
+            );
+            size = c.if-occurs.array_long;
+            others = λ u l. ap (λ (vs : List Seen). get_or vs u (Piece 0)) w.values-is ∙ before.others u l;
+            room = (λ i. vec_capacity (w.pieces-is i)) ∙ before.room;
+          }
+    ]
+
+pub returns-clause-pieces : goal.returns-clause-pieces
+returns-clause-pieces c =
+    let last : c.loop-variable.variable ≡ length c.args.tgd.now.vars = omega arith in
+    let more = c.loop-variable.invariant.pieces in (
+      more.0,
+      more.1,
+      subst (AddsPieces c.args.tgd.now c.args.name c.args.span c.args.pieces.now.items more.0 c.loop-variable.values) last more.2,
+    )

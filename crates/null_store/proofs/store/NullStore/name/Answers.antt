@@ -1,0 +1,20 @@
+use Rattle.std.proofs.Common.{map, refl, ◌∙◌}
+use Rattle.null_store.specs.Layout.{piece_of}
+use Rattle.null_store.proofs.StoreLemmas.{sound_names, pieces_stay}
+use Rattle.null_store.proofs.store.NullStore.name.Goals as goal
+
+pub invariant_of-self : goal.invariant_of-self
+invariant_of-self c =
+    let names = c.number_of.ensures.keeps in
+    rw names.1 (sound_names c.self.inside.rows c.self.inside.pieces.items _ c.self.inside.names names.0 c.self.invariant)
+
+pub returns-clause-keeps : goal.returns-clause-keeps
+returns-clause-keeps c =
+    let names = c.number_of.ensures.keeps in
+    let pieces = c.self.inside.pieces.items in
+    rw (← c.self.view_is) (record {
+      rows = refl;
+      pieces = (λ i. map (piece_of (names.1 i)) pieces) ∙ pieces_stay c.self.inside.names names.0 pieces c.self.invariant.named;
+      spare = refl;
+      names = names;
+    })

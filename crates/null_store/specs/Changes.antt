@@ -1,0 +1,67 @@
+-- How a store changes.
+use Rattle.std.specs.Prelude.{◌≡◌, ℕ, ◌+◌, ◌-◌, ◌≤◌, List, [], ◌++◌, All, Contains, IsPermutation, IsSomeAnd, Some, length, flat_map, slice_get}
+use Rattle.time_line.specs.Span.{Ends, Meet}
+use Rattle.term_core.specs.declared.const_id.ConstId.{ConstId}
+use Rattle.rule_core.specs.declared.rules.Tgd.{Tgd}
+use Rattle.rule_core.specs.Terms.{named, unknown}
+use Rattle.rule_core.specs.Mapping.{RuleSet}
+use Rattle.rule_core.specs.Firing.{FiringOf, frontier_of, entry_rows}
+use Rattle.null_store.specs.Store.{NameOf, Store, facts_in}
+
+-- the store of these parts with nothing in it
+abbrev pub IsEmpty : Store → Type 0
+IsEmpty store = (store.rows ≡ []) × (store.pieces ≡ []) × (store.names ≡ [])
+
+-- rows, pieces and names are the same
+pub record HoldsSame (old new : Store) : Type 0 where
+  pub rows : new.rows ≡ old.rows
+  pub pieces : new.pieces ≡ old.pieces
+  pub names : new.names ≡ old.names
+
+-- there is room for so many rows, cells and pieces more
+pub record HasRoom (store : Store) (more_rows more_cells more_pieces : ℕ) : Type 0 where
+  pub rows : more_rows ≤ store.spare.rows
+  pub cells : more_cells ≤ store.spare.cells
+  pub pieces : more_pieces ≤ store.spare.pieces
+
+-- the name has this number
+abbrev pub IsNamedAt : Store → ℕ → ℕ → List ConstId → Type 0
+IsNamedAt store number rule frontier = slice_get store.names number ≡ Some (record { rule = rule; frontier = frontier })
+
+-- rows, pieces and room are the same, and the names before are there with their numbers
+pub record KeepsAllButNames (old new : Store) : Type 0 where
+  pub rows : new.rows ≡ old.rows
+  pub pieces : new.pieces ≡ old.pieces
+  pub spare : new.spare ≡ old.spare
+  pub names : (more : List NameOf) × (new.names ≡ old.names ++ more)
+
+-- how many cells the rows of a head have
+abbrev pub head_cells : Tgd → ℕ
+head_cells tgd = length (flat_map (λ atom. atom.args) tgd.head)
+
+-- how many `exists` variables a tgd has
+abbrev pub exists_count : Tgd → ℕ
+exists_count tgd = length tgd.vars - tgd.body_vars
+
+-- the tgd with the name's place has a frontier of so many variables, and there is room for its head
+abbrev pub CanFire : RuleSet → Store → NameOf → Type 0
+CanFire rules store name = IsSomeAnd (slice_get rules.tgds name.rule)
+    (λ tgd. (length name.frontier ≡ length (frontier_of tgd))
+    × HasRoom store (length tgd.head) (head_cells tgd) (exists_count tgd))
+
+-- no row over a span that meets this one holds an unknown of the name
+abbrev pub IsFresh : Store → NameOf → Ends → Type 0
+IsFresh store name span = All (λ fact. Meet fact.span span
+    → (var : ℕ) → ¬ (Contains fact.row.terms (unknown (named name.rule name.frontier var)))) (facts_in store)
+
+-- the firing of a name over a span
+abbrev pub firing_at : NameOf → Ends → FiringOf ConstId
+firing_at name span = record { rule = name.rule; frontier = name.frontier; span = span }
+
+-- the firing's rows are there too, and names stay; the room is less by at most what the head takes
+pub record AddsFiring (rules : RuleSet) (name : NameOf) (span : Ends) (old new : Store) : Type 0 where
+  pub rows : IsPermutation (facts_in old ++ entry_rows (λ c. c) rules (firing_at name span)) (facts_in new)
+  pub names : new.names ≡ old.names
+  pub room : IsSomeAnd (slice_get rules.tgds name.rule) (λ tgd.
+      (old.spare.rows ≤ new.spare.rows + length tgd.head) × (old.spare.cells ≤ new.spare.cells + head_cells tgd)
+      × (old.spare.pieces ≤ new.spare.pieces + exists_count tgd))

@@ -1,0 +1,14 @@
+//! The rows of a target while it is made. A cell is a constant or a piece, which is an unknown over
+//! the span of its rows. Rows, cells and pieces lie in plain lists so far.
+#![tactic(auto)]
+
+mod firing;
+pub mod laws;
+mod names;
+mod piece;
+mod rows;
+mod store;
+#[cfg(test)]
+mod tests;
+
+pub use store::NullStore;

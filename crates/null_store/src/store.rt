@@ -1,0 +1,177 @@
+//! A store of rows over constants and pieces of unknowns.
+
+ghost use Rattle.std.specs.Prelude.{◌≡◌, ◌↔◌, ◌≤◌, Some, IsTrue, IsSomeAnd, IfOk, OnOk, OnErr, slice_get};
+ghost use Rattle.std.specs.declared.cmp.Ordering.TheVariants.{Less};
+ghost use Rattle.term_core.specs.Order.{unknown_cmp};
+ghost use Rattle.fact_table.specs.Rows.{HasCell, cell_at};
+ghost use Rattle.null_store.specs.Store.{IsStore, IsLive, piece_at};
+ghost use Rattle.null_store.specs.Changes.{IsEmpty, HoldsSame, HasRoom, IsNamedAt, KeepsAllButNames, CanFire, IsFresh, AddsFiring};
+ghost use Rattle.null_store.specs.Layout.{name_of, unknown_in};
+
+use crate::firing::fire;
+use crate::names::{Name, Names};
+use crate::piece::NamedPiece;
+use crate::rows::RowList;
+use fact_table::{FactSource, RowHead, Steps};
+use rule_core::Rules;
+use std::alloc::Global;
+use std::cmp::Ordering;
+use std::marker::Model;
+use std::sync::ledger::Ledger;
+use term_core::{ConstId, Items, Memory, Seen, Unknown};
+use time_line::Span;
+
+/// Rows of a target. Each piece is in a row, and the rows that hold it have its span. Pieces of one
+/// unknown have no instant in common.
+#[derive(Drop)]
+pub struct NullStore {
+    rows: RowList,
+    pieces: Vec<NamedPiece>,
+    names: Names,
+    alloc: Global,
+}
+
+impl Model for NullStore {
+    ghost use Rattle.std.specs.Prelude.{◌-◌, vec_capacity, vec_len};
+    ghost use Rattle.null_store.specs.Store.{Store};
+    ghost use Rattle.null_store.specs.Layout.{store_of, IsSound};
+
+    ghost Value = { Store };
+
+    ghost view = { λ s. store_of s.rows s.pieces.items
+        (vec_capacity s.pieces - vec_len s.pieces) s.names };
+
+    ghost invariant = { λ s. IsSound s.rows s.pieces.items
+        (vec_capacity s.pieces - vec_len s.pieces) s.names };
+}
+
+impl NullStore {
+    /// A store with no row, no piece and no name. What is added takes its memory from `alloc`.
+    pub fn new(alloc: Global) -> NullStore
+        ensures { IsEmpty result }
+    {
+        NullStore {
+            rows: RowList::new(alloc),
+            pieces: Vec::new(alloc),
+            names: Names::new(alloc),
+            alloc,
+        }
+    }
+
+    /// The facts that the type keeps.
+    pub fn is_kept(&self)
+        ensures { IsStore self.now }
+    {
+        let _ = &self.rows;
+    }
+
+    /// Takes memory for so many more rows, cells and pieces.
+    pub fn reserve(&mut self, rows: usize, cells: usize, pieces: usize) -> Result<(), Memory>
+        ensures same { HoldsSame self.old self.new }
+        ensures room { OnOk result (HasRoom self.new rows cells pieces) }
+    {
+        self.rows.reserve(rows, cells)?;
+        self.pieces.reserve(pieces)?;
+        Ok(())
+    }
+
+    /// The number of the name of a rule's unknowns at these values of its frontier, which is added
+    /// where it is new.
+    pub fn name(&mut self, rule: u32, frontier: &Items<ConstId>) -> Result<usize, Memory>
+        ensures ok { IfOk result (λ number. IsNamedAt self.new number rule frontier.now) }
+        ensures keeps { KeepsAllButNames self.old self.new }
+        ensures err { OnErr result (self.new.names ≡ self.old.names) }
+    {
+        self.names.number_of(self.alloc, rule, frontier)
+    }
+
+    /// Adds the rows of a firing: those of the head of the name's tgd over the span, with a new
+    /// piece for each `exists` variable that the head has.
+    pub fn add_firing<L: Ledger>(
+        &mut self,
+        rules: &Rules,
+        name: usize,
+        span: Span,
+        steps: &mut Steps<L>,
+    )
+        requires { IsSomeAnd (slice_get self.old.names name)
+            (λ n. CanFire rules.now self.old n × IsFresh self.old n span) }
+        ensures adds { IsSomeAnd (slice_get self.old.names name)
+            (λ n. AddsFiring rules.now n span self.old self.new) }
+        ensures steps { steps.old ≤ steps.new }
+    {
+        rules.are_valid();
+        let named = self.names.get(name);
+        let tgd = &rules.tgds().as_slice()[named.rule as usize];
+        let frontier = named.frontier.as_slice();
+        let (rows, pieces) = (&mut self.rows, &mut self.pieces);
+        fire(tgd, frontier, name, span, rows, pieces, steps);
+    }
+
+    /// The unknown of a live piece.
+    pub fn unknown_of(&self, piece: usize) -> Result<Unknown, Memory>
+        requires { IsLive self.now piece }
+        ensures { IfOk result (λ unknown.
+            IsSomeAnd (piece_at self.now piece) (λ p. p.unknown ≡ unknown)) }
+    {
+        let piece = &self.pieces[piece];
+        let name = self.names.get(piece.name);
+        Ok(Unknown {
+            rule: name.rule,
+            frontier: Items::from_vec(name.frontier.as_slice().to_vec(self.alloc)?),
+            var: piece.var,
+        })
+    }
+
+    /// Whether the unknown of the one live piece stands before that of the other.
+    pub fn lesser(&self, a: usize, b: usize) -> bool
+        requires a { IsLive self.now a }
+        requires b { IsLive self.now b }
+        ensures { IsSomeAnd (piece_at self.now a) (λ p. IsSomeAnd (piece_at self.now b)
+            (λ q. IsTrue result ↔ (unknown_cmp p.unknown q.unknown ≡ Less))) }
+    {
+        let (left, right) = (self.pieces[a], self.pieces[b]);
+        let name = self.names.get(left.name);
+        let other = self.names.get(right.name);
+        order(name, left.var, other, right.var).is_lt()
+    }
+
+    /// The span of a live piece.
+    pub fn piece_span(&self, piece: usize) -> Span
+        requires { IsLive self.now piece }
+        ensures { IsSomeAnd (piece_at self.now piece) (λ p. p.span ≡ result) }
+    {
+        self.pieces[piece].span
+    }
+}
+
+// How the unknown of a name for a variable stands to that of another.
+fn order(name: &Name, var: u32, other: &Name, other_var: u32) -> Ordering
+    ensures { result ≡ unknown_cmp (unknown_in (name_of name.now) var)
+        (unknown_in (name_of other.now) other_var) }
+{
+    let frontiers = name.frontier.as_slice().cmp(other.frontier.as_slice());
+    name.rule
+        .cmp(&other.rule)
+        .then(frontiers.then(var.cmp(&other_var)))
+}
+
+impl FactSource for NullStore {
+    ghost rows = { λ s. s.rows };
+
+    fn bound(&self) -> usize {
+        self.rows.len()
+    }
+
+    fn head(&self, row: usize) -> Option<RowHead> {
+        self.rows.head(row)
+    }
+
+    fn cell<L: Ledger>(&self, row: usize, column: usize, _steps: &mut Steps<L>) -> Seen
+        requires { HasCell self.now.rows row column }
+        ensures value { cell_at self.now.rows row column ≡ Some result }
+        ensures steps { _steps.old ≤ _steps.new }
+    {
+        self.rows.cell(row, column)
+    }
+}
