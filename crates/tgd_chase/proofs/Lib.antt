@@ -1,0 +1,10 @@
+pub mod AddingLemmas
+pub mod CandidateLemmas
+pub mod DecisionLemmas
+pub mod FiringSearchLemmas
+pub mod ImageLemmas
+pub mod ListingLemmas
+pub mod MergeLemmas
+pub mod RoomLemmas
+pub mod RowLemmas
+pub mod SolutionLemmas

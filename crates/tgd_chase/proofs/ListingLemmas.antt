@@ -1,0 +1,148 @@
+-- That candidates, merged, are the firings of a table.
+use Rattle.std.proofs.Common.{◌≡◌, ℕ, ℤ, ◌+◌, Some, false, List, length, get_or, map, refl, sym, ap, ◌∙◌, subst, All, Contains, IsPermutation, IsSorted}
+use Rattle.std.specs.Prelude.{slice_get}
+use Rattle.std.specs.declared.cmp.Ordering.{Ordering}
+use Rattle.std.specs.declared.cmp.Ordering.TheVariants.{Less, Equal, Greater}
+use Rattle.std.specs.Ordering.{nat_cmp, is_lt, ordering_then}
+use Rattle.std.specs.Cmp.Lexicographic.{slice_cmp}
+use Rattle.std.proofs.lemmas.List.Elements.{All-contains, All-weaker, Contains-get_or}
+use Rattle.std.proofs.lemmas.List.Sorted.{Contains-permutation, IsPermutation-sym}
+use Rattle.std.proofs.lemmas.Option.{get_or_from_slice_get}
+use Rattle.time_line.specs.Span.{HasInstant, span_cmp}
+use Rattle.term_core.specs.declared.const_id.ConstId.{ConstId}
+use Rattle.term_core.specs.Order.{id_cmp}
+use Rattle.rule_core.specs.declared.rules.Tgd.{Tgd}
+use Rattle.rule_core.specs.Terms.{constant}
+use Rattle.rule_core.specs.Mapping.{RuleSet}
+use Rattle.rule_core.specs.Firing.{frontier_of, Fires}
+use Rattle.fact_table.specs.declared.fact.Fact.{Fact}
+use Rattle.body_match.proofs.SearchLemmas.{some_and, and_some, same_some}
+use Rattle.normaliser.specs.Normalised.{snapshot_of}
+use Rattle.failure_trace.specs.declared.firing.Firing.{Firing}
+use Rattle.failure_trace.specs.declared.firing.Support.{Support}
+use Rattle.tgd_chase.specs.Fired.{FiresOn, Supports, IsSupported, AreFirings}
+use Rattle.tgd_chase.specs.Candidates.{IsCandidateOf, IsFoundAt, IsCandidate, AreCandidates}
+use Rattle.tgd_chase.specs.Merging.{candidate_cmp, IsAlike, IsPart, IsMadeUp, AreMerged}
+use Rattle.tgd_chase.specs.declared.candidates.Candidate.{Candidate}
+use Rattle.tgd_chase.specs.contracts.candidates.CandidateOrd.TheImpl.{cmp-value}
+use Rattle.tgd_chase.proofs.CandidateLemmas.{values_given}
+use Rattle.tgd_chase.proofs.MergeLemmas.{HaveInstants}
+
+module _ (rules : RuleSet) (table : List Fact) where
+  -- what candidates are does not hang on their order
+  pub candidates_moved : (xs ys : List Candidate) → IsPermutation xs ys → AreCandidates rules table xs → AreCandidates rules table ys
+  candidates_moved xs ys moved h = record {
+    each = λ k d l. All-contains (IsCandidate rules table) xs (get_or ys k d) h.each
+        (Contains-permutation ys xs (get_or ys k d) (IsPermutation-sym xs ys moved) (Contains-get_or ys k d l));
+    whole = λ rule values t fires.
+        let f = h.whole rule values t fires in
+        let c = Contains-permutation xs ys f.1 moved (f.0, f.2, f.3) in
+        (c.0, f.1, c.1, c.2, f.4);
+  }
+
+  -- the tgd of a candidate, and what it is of it
+  tgd_of : (c : Candidate) → IsCandidate rules table c
+      → (tgd : Tgd) × (slice_get rules.tgds c.rule ≡ Some tgd) × IsCandidateOf table c.rule tgd c
+  tgd_of c h = some_and (λ tgd. IsCandidateOf table c.rule tgd c) (slice_get rules.tgds c.rule) h
+
+  module _ (all : List Candidate) (whole : AreCandidates rules table all) where
+    pub have_instants : HaveInstants all
+    have_instants = All-weaker (IsCandidate rules table) (λ c. HasInstant c.support.span) (λ c h. (tgd_of c h).2.instant) all whole.each
+
+    candidate_is : (c : Candidate) → Contains all c → IsCandidate rules table c
+    candidate_is c there = All-contains (IsCandidate rules table) all c whole.each there
+
+    -- where a candidate has an instant, its tgd fires
+    fires_from_found : (rule : ℕ) (values : List ConstId) (t : ℤ) → IsFoundAt all rule values t
+        → FiresOn rules (snapshot_of table t) rule values
+    fires_from_found rule values t f =
+        let c = f.1 in
+        let of = tgd_of c (candidate_is c (f.0, f.2, f.3)) in
+        let tgd = of.0 in
+        let given = c.support.binding in
+        let zero : ConstId = record { 0 = 0 } in
+        let value : ℕ → ConstId = λ v. get_or given v zero in
+        let gives : (v : ℕ) (x : ConstId) → slice_get given v ≡ Some x → value v ≡ x = λ v x e. get_or_from_slice_get given v x zero e in
+        let fires : Fires (λ x. x) tgd (snapshot_of table t) values = (
+          value,
+          of.2.supports.matches (λ v. constant (value v)) t (λ v x e. ap constant (gives v x e)) f.4.2,
+          values_given value given gives (frontier_of tgd) c.frontier of.2.supports.frontier ∙ f.4.1,
+        ) in
+        and_some (λ tgd. Fires (λ x. x) tgd (snapshot_of table t) values) (slice_get rules.tgds rule) tgd
+        (ap (slice_get rules.tgds) (sym f.4.0) ∙ of.1) fires
+
+    module _ (firing : Firing) (made : IsMadeUp all firing) where
+      -- a candidate with the firing's key is one of the firing's tgd
+      alike_supports : (tgd : Tgd) → slice_get rules.tgds firing.rule ≡ Some tgd → (c : Candidate) → Contains all c → IsAlike firing c
+          → Supports table tgd firing.frontier c.support
+      alike_supports tgd is c there alike =
+          let of = tgd_of c (candidate_is c there) in
+          let one = same_some (slice_get rules.tgds firing.rule) of.0 tgd (ap (slice_get rules.tgds) alike.0 ∙ of.1) is in
+          subst (λ x. Supports table x firing.frontier c.support) one
+          (subst (λ values. Supports table of.0 values c.support) (sym alike.1) of.2.supports)
+
+      part_supports : (tgd : Tgd) → slice_get rules.tgds firing.rule ≡ Some tgd → (s : Support) → IsPart all firing s
+          → Supports table tgd firing.frontier s
+      part_supports tgd is s part =
+          let w = alike_supports tgd is part.whole part.there part.alike in
+          record {
+            size = ap length part.binding ∙ w.size;
+            frontier = ap (λ xs. map (λ v. slice_get xs v) (frontier_of tgd)) part.binding ∙ w.frontier;
+            matches = λ binding t gives has. w.matches binding t
+                (λ v c e. gives v c (ap (λ xs. slice_get xs v) part.binding ∙ e)) (part.within t has);
+            ends = λ m e.
+                let from = part.ends m e in
+                (alike_supports tgd is from.0 from.1 from.2).ends m from.3;
+          }
+
+      is_supported : IsSupported rules table firing
+      is_supported =
+          let first = made.first in
+          let of = tgd_of first.0 (candidate_is first.0 first.1) in
+          let is = ap (slice_get rules.tgds) first.2.0 ∙ of.1 in
+          record {
+            each = and_some (λ tgd. All (Supports table tgd firing.frontier) firing.supports) (slice_get rules.tgds firing.rule) of.0 is
+                (All-weaker (IsPart all firing) (Supports table of.0 firing.frontier) (part_supports of.0 is) firing.supports made.each);
+            order = made.order;
+            whole = made.whole;
+          }
+
+    pub firings_from_merged : (firings : List Firing) → AreMerged all firings → AreFirings rules table firings
+    firings_from_merged firings merged = record {
+      exact = λ rule values t. (
+        λ h. fires_from_found rule values t ((merged.same rule values t).0 h),
+        λ fires. (merged.same rule values t).1 (whole.whole rule values t fires),
+      );
+      separate = merged.separate;
+      ordered = merged.ordered;
+      supported = All-weaker (IsMadeUp all) (IsSupported rules table) is_supported firings merged.made;
+    }
+
+-- ---- the order of candidates
+
+-- what is no less by one comparison more is no less without it
+no_less : (u v : Ordering) → is_lt (ordering_then u v) ≡ false → is_lt u ≡ false
+no_less Less v h = h
+no_less Equal v h = refl
+no_less Greater v h = refl
+
+no_less_behind : (r u v : Ordering) → (is_lt (ordering_then u v) ≡ false → is_lt u ≡ false)
+    → is_lt (ordering_then r (ordering_then u v)) ≡ false
+    → is_lt (ordering_then r u) ≡ false
+no_less_behind Less u v f h = h
+no_less_behind Equal u v f h = f h
+no_less_behind Greater u v f h = h
+
+no_less_before : (r s u v : Ordering) → is_lt (ordering_then r (ordering_then s (ordering_then u v))) ≡ false
+    → is_lt (ordering_then r (ordering_then s u)) ≡ false
+no_less_before Less s u v h = h
+no_less_before Equal s u v h = no_less_behind s u v (no_less u v) h
+no_less_before Greater s u v h = h
+
+-- candidates that the program has sorted are in order
+pub sorted_by_key : (list : List Candidate) → IsSorted cmp-value.it list → IsSorted candidate_cmp list
+sorted_by_key list sorted k d low h =
+    let a = get_or list (k + 1) d in
+    let b = get_or list k d in
+    no_less_before (nat_cmp a.rule b.rule) (slice_cmp id_cmp a.frontier b.frontier) (span_cmp a.support.span b.support.span)
+    (slice_cmp id_cmp a.support.binding b.support.binding) (sorted k d low h)

@@ -1,0 +1,6 @@
+-- The values of the variables so far.
+use Rattle.std.proofs.Common.{◌≡◌, Some, map, take, slice_get}
+use Rattle.tgd_chase.proofs.candidates.values_of.Given as goal
+
+abbrev pub invariant-loop-variable : goal.invariant-loop-variable
+invariant-loop-variable l = map (λ v. slice_get l.binding v) (take l.variable-index l.variables) ≡ map (λ c. Some c) l.values

@@ -1,0 +1,4 @@
+pub mod Fired
+pub mod Adding
+pub mod Candidates
+pub mod Merging

@@ -1,0 +1,121 @@
+//! The matches of tgds' bodies in a table, with what each gives to the frontier. With the tgd
+//! `A(x, y) -> exists z: B(x, z)` the row `A(a, b)` over 1 to 5 is a candidate with the frontier
+//! value a, over 1 to 5, and with x = a and y = b.
+
+ghost use Rattle.std.specs.Prelude.{◌≡◌, ◌↔◌, ◌<◌, ◌≤◌, ℕ, Some, All, Contains, length, map, slice_get, IfOk, OnOk};
+ghost use Rattle.rule_core.specs.Validity.{occurrences};
+ghost use Rattle.tgd_chase.specs.Candidates.{AreCandidates, AddsCandidates, IsMadeFrom, IsConstant};
+
+use body_match::{Match, matches};
+use fact_table::{FactTable, Steps};
+use failure_trace::Support;
+use rule_core::{Rules, Tgd, frontier};
+use std::alloc::Global;
+use std::sync::ledger::Ledger;
+use term_core::{ConstId, Items, Memory, Seen};
+
+/// A match of a rule's body, with the values of the rule's frontier. Candidates are ordered by
+/// rule, then by frontier, then by span.
+#[derive(Debug, PartialEq, Eq, PartialOrd, Ord, Drop)]
+pub struct Candidate {
+    /// The place of the rule.
+    pub rule: u32,
+    /// The values of its frontier.
+    pub frontier: Items<ConstId>,
+    /// The match.
+    pub support: Support,
+}
+
+/// All matches of the bodies of a mapping's tgds.
+pub fn find_candidates<L: Ledger>(
+    alloc: Global,
+    rules: &Rules,
+    table: &FactTable,
+    steps: &mut Steps<L>,
+) -> Result<Vec<Candidate>, Memory>
+    ensures { IfOk result (λ list. AreCandidates rules.now table.now list.items) }
+{
+    rules.are_valid();
+    let mut list = Vec::new(alloc);
+    for (rule, tgd) in rules.tgds().as_slice().iter().enumerate() {
+        add_candidates(alloc, rule as u32, tgd, table, &mut list, steps)?;
+    }
+    Ok(list)
+}
+
+// Adds all matches of the body of the tgd at a place.
+fn add_candidates<L: Ledger>(
+    alloc: Global,
+    rule: u32,
+    tgd: &Tgd,
+    table: &FactTable,
+    list: &mut Vec<Candidate>,
+    steps: &mut Steps<L>,
+) -> Result<(), Memory>
+    requires atoms { 1 ≤ length tgd.now.body }
+    requires vars { (v : ℕ) → Contains (occurrences tgd.now.body) v ↔ (v < tgd.now.body_vars) }
+    ensures { OnOk result (AddsCandidates table.now rule tgd.now list.old.items list.new.items) }
+{
+    let variables = frontier(alloc, tgd)?;
+    let found = matches(alloc, &tgd.body, tgd.body_vars, table, steps)?;
+    for one in found.as_slice() {
+        list.push(candidate_of(alloc, rule, variables.as_slice(), one)?)?;
+    }
+    Ok(())
+}
+
+// A match as a candidate, where the frontier has these variables.
+fn candidate_of(
+    alloc: Global,
+    rule: u32,
+    variables: &[u32],
+    found: &Match,
+) -> Result<Candidate, Memory>
+    requires constants { All IsConstant found.now.binding }
+    requires within { All (λ v. v < length found.now.binding) variables.now }
+    ensures { IfOk result (IsMadeFrom rule variables.now found.now) }
+{
+    let binding = constants_of(alloc, found.binding.as_slice())?;
+    let frontier = values_of(alloc, variables, binding.as_slice())?;
+    let support = Support {
+        span: found.span,
+        binding,
+    };
+    Ok(Candidate {
+        rule,
+        frontier,
+        support,
+    })
+}
+
+// The constants that cells show.
+fn constants_of(alloc: Global, cells: &[Seen]) -> Result<Items<ConstId>, Memory>
+    requires { All IsConstant cells.now }
+    ensures { IfOk result (λ constants. map Seen.Const constants ≡ cells.now) }
+{
+    let mut constants = Items::new(alloc);
+    for cell in cells {
+        match cell {
+            Seen::Const(constant) => constants.push(*constant)?,
+            Seen::Piece(_) => unreachable!(),
+        }
+    }
+    Ok(constants)
+}
+
+// The values of some variables, of those of all variables.
+fn values_of(
+    alloc: Global,
+    variables: &[u32],
+    binding: &[ConstId],
+) -> Result<Items<ConstId>, Memory>
+    requires { All (λ v. v < length binding.now) variables.now }
+    ensures { IfOk result (λ values.
+        map (λ v. slice_get binding.now v) variables.now ≡ map (λ c. Some c) values) }
+{
+    let mut values = Items::new(alloc);
+    for variable in variables {
+        values.push(binding[*variable as usize])?;
+    }
+    Ok(values)
+}

@@ -1,0 +1,97 @@
+//! The rows that a mapping's tgds make of a table.
+
+ghost use Rattle.std.specs.Prelude.{◌≡◌, ◌<◌, ◌≤◌, ◌^◌, IfOk, OnOk, IsPermutation, length, sum_by};
+ghost use Rattle.time_line.specs.Span.{HasInstant};
+ghost use Rattle.rule_core.specs.Firing.{firing_rows};
+ghost use Rattle.normaliser.specs.Normalised.{IsEqualOrDisjoint};
+ghost use Rattle.null_store.specs.Store.{facts_in};
+ghost use Rattle.null_store.specs.Changes.{HoldsSame, HasRoom, IsFresh, head_cells, exists_count};
+ghost use Rattle.failure_trace.specs.Entries.{entries_of};
+ghost use Rattle.tgd_chase.specs.Fired.{AreFirings, HoldFiringFacts};
+ghost use Rattle.tgd_chase.specs.Adding.{name_of, FitsRules, AddsRows};
+
+use crate::listing::list_firings;
+use fact_table::{FactTable, Steps};
+use failure_trace::Firing;
+use null_store::NullStore;
+use rule_core::{Atom, Rules, Tgd};
+use std::alloc::Global;
+use std::sync::ledger::Ledger;
+use term_core::{Items, Memory};
+
+/// A target before its equalities, and the firings that made it.
+#[derive(Drop)]
+pub struct Fired {
+    /// The rows of the firings.
+    pub store: NullStore,
+    /// The firings, in order of rule, frontier and span.
+    pub firings: Items<Firing>,
+}
+
+/// Fires each tgd of a mapping on a table, whether or not its head holds already.
+pub fn fire<L: Ledger>(
+    alloc: Global,
+    rules: &Rules,
+    table: &FactTable,
+    steps: &mut Steps<L>,
+) -> Result<Fired, Memory>
+    requires { IsEqualOrDisjoint rules.now table.now }
+    ensures firings { IfOk result (λ fired. AreFirings rules.now table.now fired.firings) }
+    ensures rows { IfOk result (λ fired.
+        IsPermutation (firing_rows (λ c. c) rules.now (entries_of fired.firings)) (facts_in fired.store)) }
+    ensures facts { IfOk result (λ fired. HoldFiringFacts rules.now table.now (facts_in fired.store)) }
+{
+    let firings = list_firings(alloc, rules, table, steps)?;
+    let mut store = NullStore::new(alloc);
+    for firing in firings.as_slice() {
+        has_instant(firing);
+        add_rows(rules, firing, &mut store, steps)?;
+    }
+    Ok(Fired { store, firings })
+}
+
+// A firing's span has an instant, as its start tells.
+fn has_instant(firing: &Firing)
+    ensures { HasInstant firing.now.span }
+{
+    let _start = firing.span.lo();
+}
+
+// Adds the rows of a firing, whose unknowns are new over its span.
+fn add_rows<L: Ledger>(
+    rules: &Rules,
+    firing: &Firing,
+    store: &mut NullStore,
+    steps: &mut Steps<L>,
+) -> Result<(), Memory>
+    requires fits { FitsRules rules.now firing.now }
+    requires fresh { IsFresh store.old (name_of firing.now) firing.now.span }
+    ensures { OnOk result (AddsRows rules.now firing.now store.old store.new) }
+{
+    rules.are_valid();
+    reserve_head(&rules.tgds().as_slice()[firing.rule as usize], store)?;
+    let name = store.name(firing.rule, &firing.frontier)?;
+    store.add_firing(rules, name, firing.span, steps);
+    Ok(())
+}
+
+// Takes memory for the rows of a tgd's head.
+fn reserve_head(tgd: &Tgd, store: &mut NullStore) -> Result<(), Memory>
+    requires cells { sum_by (λ atom. length atom.args) tgd.now.head < 2 ^ 64 }
+    requires within { tgd.now.body_vars ≤ length tgd.now.vars }
+    ensures same { HoldsSame store.old store.new }
+    ensures room { OnOk result
+        (HasRoom store.new (length tgd.now.head) (head_cells tgd.now) (exists_count tgd.now)) }
+{
+    let head = tgd.head.as_slice();
+    let unknowns = tgd.vars.len() - tgd.body_vars as usize;
+    store.reserve(head.len(), cell_count(head), unknowns)
+}
+
+// How many cells the rows of a head have.
+fn cell_count(head: &[Atom]) -> usize
+    requires { sum_by (λ atom. length atom.args) head.now < 2 ^ 64 }
+    ensures { result ≡ sum_by (λ atom. length atom.args) head.now }
+{
+    head.iter().map(|atom| atom.args.len()).sum()
+}

@@ -1,0 +1,12 @@
+//! Firing: for each tgd and each list of frontier values, the time in which some match has these values, and the rows of the heads.
+#![tactic(auto)]
+
+mod candidates;
+mod chase;
+pub mod laws;
+mod listing;
+mod merging;
+#[cfg(test)]
+mod tests;
+
+pub use chase::{Fired, fire};
