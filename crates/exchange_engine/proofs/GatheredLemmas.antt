@@ -1,0 +1,112 @@
+-- Texts and facts, gathered one after another.
+use Rattle.std.proofs.Common.{◌≡◌, ◌↔◌, ◌⊎◌, inl, inr, ℕ, ◌+◌, ◌<◌, ◌≤◌, List, [], ◌∷◌, ◌++◌, Some, length, take, get_or, sum_by, sym, ap, ◌∙◌, subst, arith, All, Any, Contains}
+use Rattle.std.specs.Prelude.{slice_get}
+use Rattle.std.proofs.lemmas.List.{take_more, take_all}
+use Rattle.std.proofs.lemmas.List.Sums.{sum_by_push}
+use Rattle.std.proofs.lemmas.List.Elements.{All-get_or, Contains-append_left, Contains-push, Contains-push_cases}
+use Rattle.std.proofs.lemmas.List.Quantifiers.{Any-push}
+use Rattle.std.proofs.lemmas.Option.{slice_get_read, slice_get_within, get_or_from_slice_get}
+use Rattle.rule_core.proofs.ListLemmas.{Contains-nil}
+use Rattle.exchange_engine.specs.Gathered.{Gains}
+
+-- nothing is added
+pub Gains-none : (texts : List (List ℕ)) (IsMore : List ℕ → Type 0) → ((text : List ℕ) → ¬ (IsMore text)) → Gains texts texts IsMore 0
+Gains-none texts IsMore none = record {
+  texts = λ text. (λ c. inl c, λ h. elim h [ inl c ↦ c | inr m ↦ absurd (none text m) ]);
+  few = omega arith;
+}
+
+-- texts are added, and then others
+pub Gains-more : (old mid new : List (List ℕ)) (P Q R : List ℕ → Type 0) (m n k : ℕ) → Gains old mid P m → Gains mid new Q n
+    → ((text : List ℕ) → R text ↔ (P text ⊎ Q text)) → k ≡ m + n → Gains old new R k
+Gains-more old mid new P Q R m n k first second both size = record {
+  texts = λ text. (
+    λ c. elim ((second.texts text).0 c) [
+      | inl before ↦ elim ((first.texts text).0 before) [ inl o ↦ inl o | inr p ↦ inr ((both text).1 (inl p)) ]
+      | inr q ↦ inr ((both text).1 (inr q))
+    ],
+    λ h. elim h [
+      | inl o ↦ (second.texts text).1 (inl ((first.texts text).1 (inl o)))
+      | inr r ↦ elim ((both text).0 r) [
+        | inl p ↦ (second.texts text).1 (inl ((first.texts text).1 (inr p)))
+        | inr q ↦ (second.texts text).1 (inr q)
+      ]
+    ],
+  );
+  few = omega (arith, first.few, second.few, size);
+}
+
+-- the front of a list with one more element
+pub front_more : {X : Type 0} (xs : List X) (i : ℕ) (x : X) → slice_get xs i ≡ Some x → take (i + 1) xs ≡ take i xs ++ x ∷ []
+front_more xs i x e =
+    take_more xs i x (slice_get_within xs i x e) ∙ ap (λ z. take i xs ++ z ∷ []) (get_or_from_slice_get xs i x x e)
+
+-- what holds of each element holds of the one at a place
+pub All-at : {X : Type 0} (P : X → Type 0) (xs : List X) (i : ℕ) (x : X) → All P xs → slice_get xs i ≡ Some x → P x
+All-at P xs i x all e = subst P (get_or_from_slice_get xs i x x e) (All-get_or P xs i x (slice_get_within xs i x e) all)
+
+Any-push_cases : {X : Type 0} (P : X → Type 0) (xs : List X) (y : X) → Any P (xs ++ y ∷ []) → Any P xs ⊎ P y
+Any-push_cases P xs y h = elim (Contains-push_cases xs y h.1 (h.0, h.2, h.3)) [
+  | inl c ↦ inl (c.0, h.1, c.1, c.2, h.4)
+  | inr e ↦ inr (subst P (sym e) h.4)
+]
+
+Any-push_left : {X : Type 0} (P : X → Type 0) (xs : List X) (y : X) → Any P xs → Any P (xs ++ y ∷ [])
+Any-push_left P xs y h = let c = Contains-append_left xs (y ∷ []) h.1 (h.0, h.2, h.3) in (c.0, h.1, c.1, c.2, h.4)
+
+-- one more text of a list is added
+pub Gains-text : (old mid new texts : List (List ℕ)) (i : ℕ) (text : List ℕ) → slice_get texts i ≡ Some text
+    → Gains old mid (Contains (take i texts)) i → Gains mid new (λ t. t ≡ text) 1 → Gains old new (Contains (take (i + 1) texts)) (i + 1)
+Gains-text old mid new texts i text e first second =
+    subst (λ front. Gains old new (Contains front) (i + 1)) (sym (front_more texts i text e))
+    (Gains-more old mid new (Contains (take i texts)) (λ t. t ≡ text) (Contains (take i texts ++ text ∷ [])) i 1 (i + 1) first second
+    (λ t. (
+      λ c. elim (Contains-push_cases (take i texts) text t c) [ inl before ↦ inl before | inr same ↦ inr (sym same) ],
+      λ h. elim h [
+        | inl c ↦ Contains-append_left (take i texts) (text ∷ []) t c
+        | inr same ↦ subst (Contains (take i texts ++ text ∷ [])) (sym same) (Contains-push (take i texts) text)
+      ],
+    )) (omega arith))
+
+-- the texts of one more element of a list are added
+pub Gains-element : {X : Type 0} (old mid new : List (List ℕ)) (P : X → List ℕ → Type 0) (size : X → ℕ) (xs : List X) (i : ℕ) (x : X)
+    → slice_get xs i ≡ Some x → Gains old mid (λ t. Any (λ y. P y t) (take i xs)) (sum_by size (take i xs)) → Gains mid new (P x) (size x)
+    → Gains old new (λ t. Any (λ y. P y t) (take (i + 1) xs)) (sum_by size (take (i + 1) xs))
+Gains-element old mid new P size xs i x e first second =
+    subst (λ front. Gains old new (λ t. Any (λ y. P y t) front) (sum_by size front)) (sym (front_more xs i x e))
+    (Gains-more old mid new (λ t. Any (λ y. P y t) (take i xs)) (P x) (λ t. Any (λ y. P y t) (take i xs ++ x ∷ []))
+    (sum_by size (take i xs)) (size x) (sum_by size (take i xs ++ x ∷ [])) first second
+    (λ t. (
+      Any-push_cases (λ y. P y t) (take i xs) x,
+      λ h. elim h [ inl before ↦ Any-push_left (λ y. P y t) (take i xs) x before | inr here ↦ Any-push (λ y. P y t) (take i xs) x here ],
+    )) (sum_by_push size (take i xs) x))
+
+-- and so all texts of a list are
+pub Gains-texts : (old new texts : List (List ℕ)) (i : ℕ) → length texts ≡ i → Gains old new (Contains (take i texts)) i
+    → Gains old new (Contains texts) (length texts)
+Gains-texts old new texts i size h =
+    subst (λ n. Gains old new (Contains texts) n) (sym size)
+    (subst (λ front. Gains old new (Contains front) i) (take_all i texts (omega arith)) h)
+
+-- and those of all elements
+pub Gains-elements : {X : Type 0} (old new : List (List ℕ)) (P : X → List ℕ → Type 0) (size : X → ℕ) (xs : List X) (i : ℕ) → length xs ≤ i
+    → Gains old new (λ t. Any (λ y. P y t) (take i xs)) (sum_by size (take i xs)) → Gains old new (λ t. Any (λ y. P y t) xs) (sum_by size xs)
+Gains-elements old new P size xs i end h =
+    subst (λ front. Gains old new (λ t. Any (λ y. P y t) front) (sum_by size front)) (take_all i xs end) h
+
+-- the pool of what is added to nothing, and then of what is added to that
+pub pool_has : (start mid new pool : List (List ℕ)) (P Q : List ℕ → Type 0) (m n : ℕ) → start ≡ [] → Gains start mid P m → Gains mid new Q n
+    → ((text : List ℕ) → Contains pool text ↔ Contains new text) → (text : List ℕ) → Contains pool text ↔ (P text ⊎ Q text)
+pool_has start mid new pool P Q m n empty first second same text = (
+  λ c. elim ((second.texts text).0 ((same text).0 c)) [
+    | inl before ↦ elim ((first.texts text).0 before) [
+      | inl none ↦ absurd (Contains-nil text (subst (λ l. Contains l text) empty none))
+      | inr p ↦ inl p
+    ]
+    | inr q ↦ inr q
+  ],
+  λ h. (same text).1 (elim h [
+    | inl p ↦ (second.texts text).1 (inl ((first.texts text).1 (inr p)))
+    | inr q ↦ (second.texts text).1 (inr q)
+  ]),
+)

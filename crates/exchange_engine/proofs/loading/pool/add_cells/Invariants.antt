@@ -1,0 +1,7 @@
+-- The cells so far are added.
+use Rattle.std.proofs.Common.{take, Contains}
+use Rattle.exchange_engine.specs.Gathered.{Gains}
+use Rattle.exchange_engine.proofs.loading.pool.add_cells.Given as goal
+
+abbrev pub invariant-loop-cell : goal.invariant-loop-cell
+invariant-loop-cell l = Gains l.fn.builder l.builder (Contains (take l.cell-index l.cells)) l.cell-index

@@ -1,0 +1,4 @@
+pub mod Loading
+pub mod Gathered
+pub mod Solved
+pub mod Grouped

@@ -1,0 +1,53 @@
+//! An exchange without equalities and queries.
+
+ghost use Rattle.std.specs.Prelude.{All, IfOk};
+ghost use Rattle.exchange_engine.specs.Solved.{IsPlain, IfSolved, AreCoalesced, AreUniversal, AreTargetTables, AreUnknownsOf, AreWithinPool, IsMadeBy, AreCountsOf};
+
+use crate::tables::tables_of;
+use crate::unknowns::unknowns_of;
+use crate::{Counts, Loaded, Outcome, Solved};
+use body_match::laws::rows_of_a_table_are_its_facts;
+use fact_table::Steps;
+use normaliser::normalise;
+use std::alloc::Global;
+use std::sync::ledger::Ledger;
+use term_core::Memory;
+use tgd_chase::fire;
+use tgd_chase::laws::solutions_are_what_firing_facts_map_into;
+
+/// The target of a mapping without egds and queries: a table for each target relation, in their order, and the unknowns there.
+pub fn exchange<L: Ledger>(
+    alloc: Global,
+    loaded: &Loaded,
+    steps: &mut Steps<L>,
+) -> Result<Outcome, Memory>
+    requires { IsPlain loaded.now.rules }
+    ensures tables { IfOk result (λ o. IfSolved o (λ s. AreTargetTables loaded.now.rules.targets s.tables)) }
+    ensures coalesced { IfOk result (λ o. IfSolved o (λ s. AreCoalesced s.tables)) }
+    ensures universal { IfOk result (λ o. IfSolved o (λ s. AreUniversal loaded.now s.tables)) }
+    ensures nulls { IfOk result (λ o. IfSolved o (λ s. AreUnknownsOf s.tables s.nulls)) }
+    ensures made { IfOk result (λ o. IfSolved o (λ s. All (IsMadeBy loaded.now.rules) s.nulls)) }
+    ensures within { IfOk result (λ o. IfSolved o (λ s. AreWithinPool loaded.now s.tables)) }
+    ensures counts { IfOk result (λ o. IfSolved o (λ s. AreCountsOf loaded.now s.counts)) }
+{
+    loaded.has_each_constant();
+    loaded.rules.are_valid();
+    rows_of_a_table_are_its_facts();
+    solutions_are_what_firing_facts_map_into();
+    let pieces = normalise(alloc, &loaded.table, &loaded.rules)?;
+    let fired = fire(alloc, &loaded.rules, &pieces, steps)?;
+    let relations = loaded.rules.targets().len();
+    let tables = tables_of(alloc, &fired.store, relations, steps)?;
+    let nulls = unknowns_of(alloc, tables.as_slice())?;
+    let counts = Counts {
+        pieces: pieces.facts().len(),
+        firings: fired.firings.len(),
+        steps: 0,
+        cuts: 0,
+    };
+    Ok(Outcome::Solved(Solved {
+        tables,
+        nulls,
+        counts,
+    }))
+}
