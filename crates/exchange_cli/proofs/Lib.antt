@@ -1,10 +1,12 @@
 pub mod ListLemmas
-pub mod RowLemmas
-pub mod CopyLemmas
-pub mod SweepLemmas
-pub mod SweepSteps
+pub mod RankLemmas
 pub mod StoringLemmas
+pub mod RenderingLemmas
+pub mod StoredOrderLemmas
+pub mod FactTextLemmas
+pub mod NameLemmas
 pub mod TargetLemmas
+pub mod SizeLemmas
 pub mod StepLemmas
 pub mod ReadLemmas
 pub mod FailureLemmas

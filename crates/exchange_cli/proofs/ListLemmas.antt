@@ -1,5 +1,6 @@
 -- Lemmas on lists.
-use Rattle.std.proofs.Common.{◌≡◌, ◌⊎◌, ℕ, zero, suc, ◌<◌, List, [], ◌∷◌, length, get_or, slice_index_or, refl, subst, inl, inr, arith, AllPairs, Contains}
+use Rattle.std.proofs.Common.{◌≡◌, ℕ, zero, suc, ◌<◌, List, [], ◌∷◌, length, get_or, slice_index_or, arith}
+use Rattle.std.specs.List.{AllZip}
 
 -- a list of four is its four elements
 pub four : {A : Type 0} (xs : List A) (a b c d : A) → length xs ≡ 4
@@ -12,27 +13,11 @@ four (w ∷ x ∷ y ∷ []) a b c d e p q r s = absurd (omega arith)
 four (w ∷ x ∷ y ∷ z ∷ []) a b c d e p q r s = cc
 four (w ∷ x ∷ y ∷ z ∷ more ∷ rest) a b c d e p q r s = absurd (omega arith)
 
--- ---- members
-
-pub Contains-head : {X : Type 0} (x : X) (xs : List X) → Contains (x ∷ xs) x
-Contains-head x xs = (0, omega arith, refl)
-
-pub Contains-cons : {X : Type 0} (y x : X) (xs : List X) → Contains xs x → Contains (y ∷ xs) x
-Contains-cons y x xs c = (suc c.0, omega (arith, c.1), c.2)
-
-pub Contains-nil : {X : Type 0} (x : X) → ¬ (Contains [] x)
-Contains-nil x c = absurd (omega (arith, c.1))
-
-pub Contains-cons_cases : {X : Type 0} (y x : X) (xs : List X) → Contains (y ∷ xs) x → (y ≡ x) ⊎ Contains xs x
-Contains-cons_cases {X} y x xs c = by_index c.0 c.1 c.2
-  where
-    by_index : (k : ℕ) → k < length (y ∷ xs) → get_or (y ∷ xs) k x ≡ x → (y ≡ x) ⊎ Contains xs x
-    by_index zero l e = inl e
-    by_index (suc k) l e = inr (k, omega arith, e)
-
--- the first element and each later one
-pub AllPairs-head : {X : Type 0} (R : X → X → Type 0) (x : X) (xs : List X) → AllPairs R (x ∷ xs) → (y : X) → Contains xs y → R x y
-AllPairs-head R x xs pairs y c = subst (R x) c.2 (pairs 0 (suc c.0) y (omega arith) (omega (arith, c.1)))
-
-pub AllPairs-tail : {X : Type 0} (R : X → X → Type 0) (x : X) (xs : List X) → AllPairs R (x ∷ xs) → AllPairs R xs
-AllPairs-tail R x xs pairs i j d h l = pairs (suc i) (suc j) d (omega arith) (omega arith)
+-- what holds of two lists place by place holds at each place
+pub all_zip_at : {A B : Type 0} (R : A → B → Type 0) (xs : List A) (ys : List B) → AllZip R xs ys
+    → (k : ℕ) (d : A) (e : B) → k < length xs → R (get_or xs k d) (get_or ys k e)
+all_zip_at R [] [] all k d e within = absurd (omega arith)
+all_zip_at R [] (y ∷ ys) all k d e within = absurd all
+all_zip_at R (x ∷ xs) [] all k d e within = absurd all
+all_zip_at R (x ∷ xs) (y ∷ ys) all zero d e within = all.0
+all_zip_at R (x ∷ xs) (y ∷ ys) all (suc k) d e within = all_zip_at R xs ys all.1 k d e (omega arith)

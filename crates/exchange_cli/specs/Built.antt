@@ -1,9 +1,7 @@
 -- The form of mapping that is built so far.
-use Rattle.std.specs.Prelude.{◌≡◌, []}
 use Rattle.rule_core.specs.Mapping.{RuleSet}
-use Rattle.rule_core.specs.Copy.{OnlyCopies}
+use Rattle.exchange_engine.specs.Solved.{IsPlain}
 
--- no egd and no query, and each tgd has one atom on each side and no `exists` variable
-pub record IsBuilt (rules : RuleSet) : Type 0 where
-  pub copies : OnlyCopies rules
-  pub queries : rules.queries ≡ []
+-- no egd and no query
+abbrev pub IsBuilt : RuleSet → Type 0
+IsBuilt rules = IsPlain rules

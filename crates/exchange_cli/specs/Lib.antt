@@ -4,9 +4,9 @@ pub mod Names
 pub mod FaultTexts
 pub mod Endings
 pub mod Built
-pub mod RowKey
-pub mod Copying
 pub mod Target
+pub mod Rendering
+pub mod Exchanged
 pub mod Work
 pub mod Run
 pub mod Headline

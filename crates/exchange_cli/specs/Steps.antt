@@ -1,5 +1,5 @@
 -- What the steps of a run do. No public clause cites this module.
-use Rattle.std.specs.Prelude.{◌≡◌, ℕ, ◌≤◌, List, [], ◌<◌, Option, IfSome, ⊤, length, take, slice_index_or, All}
+use Rattle.std.specs.Prelude.{◌≡◌, ℕ, ◌≤◌, List, [], ◌<◌, Option, IfSome, ⊤, length, take, slice_index_or}
 use Rattle.std.specs.Option.{option_map}
 use Rattle.std.specs.FinMap.{get}
 use Rattle.shelf_core.specs.Held.{Held, OthersStay}
@@ -69,12 +69,3 @@ ReadsTable held prefix relation limit facts size = (bytes : List ℕ) × Gives h
 -- what the program has read, as the definitions see it
 abbrev pub read_of : InHand → Inputs
 read_of inputs = record { mapping = inputs.mapping; tables = inputs.tables }
-
--- each row has a cell for each column of the relation
-abbrev pub AreWide : Relation → SourceTable → Type 0
-AreWide relation table = All (λ r. length r.row ≡ length relation.columns) table
-
--- each relation has a table, which is as wide as the relation
-pub record AreAllWide (relations : List Relation) (tables : List SourceTable) : Type 0 where
-  pub size : length relations ≡ length tables
-  pub each : (k : ℕ) (r : Relation) → k < length relations → AreWide (slice_index_or relations k r) (slice_index_or tables k [])

@@ -1,5 +1,5 @@
 -- What a run has read, and the files that a solved exchange stores for it.
-use Rattle.std.specs.Prelude.{◌≡◌, ℕ, ℤ, List, [], ◌∷◌, ◌++◌, codes, map, All, slice_index_or}
+use Rattle.std.specs.Prelude.{◌≡◌, ℕ, ℤ, List, [], ◌∷◌, ◌++◌, codes, map, All}
 use Rattle.term_core.specs.declared.const_id.ConstId.{ConstId}
 use Rattle.rule_core.specs.declared.rules.Relation.{Relation}
 use Rattle.rule_core.specs.Terms.{TermOf, FactOf, StampedOf}
@@ -9,6 +9,7 @@ use Rattle.rule_core.specs.Snapshot.{snapshot_at}
 use Rattle.rule_core.specs.Solution.{IsUniversal}
 use Rattle.rule_core.specs.Coalesced.{IsCoalesced}
 use Rattle.mapping_core.specs.Mapping.{Meaning}
+use Rattle.exchange_engine.specs.Loading.{text_in}
 use Rattle.temporal_csv.specs.Stored.{IsStored, header_of, stamped_row, table_text}
 use Rattle.exchange_cli.specs.Names.{table_name, verdict_name}
 use Rattle.exchange_cli.specs.Endings.{line}
@@ -26,10 +27,6 @@ TargetTable = List (StampedOf (List (TermOf (List ℕ))))
 pub record Inputs : Type 0 where
   pub mapping : Meaning
   pub tables : List SourceTable
-
--- the text at a constant's place in a pool; behind the last an empty one
-abbrev pub text_in : List (List ℕ) → ConstId → List ℕ
-text_in pool id = slice_index_or pool id.0 []
 
 -- the texts of a mapping's constants
 abbrev pub name_of : Inputs → ConstId → List ℕ

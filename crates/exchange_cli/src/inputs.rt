@@ -1,6 +1,8 @@
 //! What a command reads: the mapping, and the facts of its source tables.
 
-ghost use Rattle.std.specs.Prelude.{◌≤◌, IfOk, IfErr, IfSome};
+ghost use Rattle.std.specs.Prelude.{◌≡◌, ◌+◌, ◌-◌, ◌^◌, ◌<◌, ◌≤◌, All, IfOk, IfErr, IfSome, length, sum_by};
+ghost use Rattle.rule_core.specs.Validity.{IsRelation};
+ghost use Rattle.exchange_engine.specs.Loading.{AreTablesOf, cell_count};
 ghost use Rattle.exchange_cli.specs.Built.{IsBuilt};
 ghost use Rattle.exchange_cli.specs.Commands.{command_of};
 ghost use Rattle.exchange_cli.specs.Work.{Reads, ReadsMapping, ReadsTables, tables_limit};
@@ -44,6 +46,10 @@ pub fn read_inputs<S: Shelf>(
     ensures reads { IfOk result (λ inputs. IfSome (S.holds shelf.old)
         (λ held. Reads held (command_of command.now) (read_of inputs))) }
     ensures built { IfOk result (λ inputs. IsBuilt inputs.mapping.rules) }
+    ensures tables { IfOk result (λ inputs.
+        AreTablesOf inputs.mapping.rules.sources inputs.tables) }
+    ensures few { IfOk result (λ inputs.
+        length inputs.mapping.pool + cell_count inputs.tables < 2 ^ 32 - 1) }
     ensures stops { IfErr result (StopsEarly (device (S.holds shelf.old) (S.faults shelf.old))
         (device (S.holds shelf.new) (S.faults shelf.new)) (command_of command.now)) }
 {
@@ -65,6 +71,7 @@ fn fetch_mapping<S: Shelf>(
         (device (S.holds shelf.new) (S.faults shelf.new)) }
     ensures reads { IfOk result (λ mapping. IfSome (S.holds shelf.old)
         (λ held. ReadsMapping held (command_of command.now) mapping)) }
+    ensures few { IfOk result (λ mapping. length mapping.pool ≤ MAPPING_LIMIT) }
     ensures stops { IfErr result (StopsEarly (device (S.holds shelf.old) (S.faults shelf.old))
         (device (S.holds shelf.new) (S.faults shelf.new)) (command_of command.now)) }
 {
@@ -89,11 +96,14 @@ fn fetch_tables<S: Shelf>(
     ensures reads { IfOk result (λ tables. IfSome (S.holds shelf.old)
         (λ held. ReadsTables held command.now.source.now tables_limit
         mapping.now.rules.sources tables)) }
+    ensures tables { IfOk result (λ tables. AreTablesOf mapping.now.rules.sources tables) }
+    ensures few { IfOk result (λ tables. cell_count tables ≤ 1_024_000_000) }
     ensures stops { IfErr result (λ ending.
         ReadsBuiltIn (S.holds shelf.old) (command_of command.now) mapping.now
         → StopsEarly (device (S.holds shelf.old) (S.faults shelf.old))
         (device (S.holds shelf.new) (S.faults shelf.new)) (command_of command.now) ending) }
 {
+    mapping.rules.are_valid();
     let mut left = TABLES_LIMIT;
     let mut tables = Items::new(alloc);
     for relation in mapping.rules.sources().as_slice() {
@@ -112,11 +122,15 @@ fn fetch_table<S: Shelf>(
     relation: &Relation,
     limit: usize,
 ) -> Result<(Items<RawFact>, usize), Ending>
+    requires { IsRelation relation.now }
     ensures keeps { Keeps (device (S.holds shelf.old) (S.faults shelf.old))
         (device (S.holds shelf.new) (S.faults shelf.new)) }
     ensures reads { IfOk result (λ read. IfSome (S.holds shelf.old)
         (λ held. ReadsTable held command.now.source.now relation.now limit read.0 read.1)) }
     ensures within { IfOk result (λ read. read.1 ≤ limit) }
+    ensures wide { IfOk result (λ read.
+        All (λ fact. length fact.row ≡ length relation.now.columns) read.0) }
+    ensures few { IfOk result (λ read. sum_by (λ fact. length fact.row) read.0 ≤ 16_000_000) }
     ensures stops { IfErr result (λ ending.
         ComesIn (S.holds shelf.old) (command_of command.now) relation.now limit
         → StopsEarly (device (S.holds shelf.old) (S.faults shelf.old))

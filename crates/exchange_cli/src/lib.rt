@@ -1,11 +1,8 @@
 //! The top call of the program: it reads a mapping and a source, and stores what is certain.
 #![tactic(auto)]
 
-mod binding;
 mod built;
-mod coalescing;
 mod command;
-mod copying;
 mod delivery;
 mod ending;
 mod fault_texts;
@@ -14,8 +11,8 @@ mod file;
 mod file_names;
 mod inputs;
 pub mod laws;
+mod rendering;
 mod reporting;
-mod row;
 mod solving;
 mod storing;
 #[cfg(test)]
@@ -24,4 +21,5 @@ mod top;
 
 pub use ending::Ending;
 pub use file::FileOut;
+pub use rendering::render;
 pub use top::{end_without_memory, run};

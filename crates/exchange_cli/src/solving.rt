@@ -1,33 +1,61 @@
 //! The target that a mapping makes of its source, as files.
 
-ghost use Rattle.std.specs.Prelude.{IfOk};
+ghost use Rattle.std.specs.Prelude.{◌≡◌, ◌+◌, ◌<◌, ◌-◌, ◌^◌, IfOk, length};
+ghost use Rattle.exchange_engine.specs.Loading.{AreTablesOf, cell_count};
+ghost use Rattle.exchange_engine.specs.Solved.{IsPlain};
 ghost use Rattle.exchange_cli.specs.Built.{IsBuilt};
 ghost use Rattle.exchange_cli.specs.Target.{AreSolvedFiles};
+ghost use Rattle.exchange_cli.specs.Exchanged.{IsLoadedFrom, IsSolvedFrom};
 ghost use Rattle.exchange_cli.specs.Steps.{read_of};
 
-use crate::copying::copied_tables;
 use crate::file::FileOut;
 use crate::inputs::Inputs;
-use crate::storing::{table_files, verdict};
-use rule_core::laws::{
-    copied_rows_are_as_wide_as_their_relation, copied_tables_are_universal,
-    tables_of_constants_are_coalesced_alike,
-};
+use crate::laws::stored_tables_are_a_target;
+use crate::rendering::render;
+use exchange_engine::{Loaded, Outcome, Solved, exchange, load};
+use fact_table::Steps;
 use std::alloc::Global;
+use std::marker::Brand;
+use std::sync::ledger::{Blank, Ledger};
 use term_core::{Items, Memory};
 
 /// The files of a solved exchange, in the order in which they are stored.
 pub fn solve(alloc: Global, target: &str, inputs: Inputs) -> Result<Items<FileOut>, Memory>
-    requires { IsBuilt inputs.mapping.rules }
+    requires built { IsBuilt inputs.mapping.rules }
+    requires tables { AreTablesOf inputs.mapping.rules.sources inputs.tables }
+    requires few { length inputs.mapping.pool + cell_count inputs.tables < 2 ^ 32 - 1 }
     ensures { IfOk result (AreSolvedFiles (read_of inputs) target.now) }
+{
+    stored_tables_are_a_target();
+    let loaded = load_inputs(alloc, inputs)?;
+    let solved = exchanged::<Brand>(alloc, &loaded, Blank::new(1))?;
+    render(alloc, &loaded, &solved, target)
+}
+
+// What was read, loaded. The texts that were read are given up.
+fn load_inputs(alloc: Global, inputs: Inputs) -> Result<Loaded, Memory>
+    requires tables { AreTablesOf inputs.mapping.rules.sources inputs.tables }
+    requires few { length inputs.mapping.pool + cell_count inputs.tables < 2 ^ 32 - 1 }
+    ensures { IfOk result (IsLoadedFrom (read_of inputs)) }
 {
     let Inputs { mapping, tables } = inputs;
     mapping.rules.are_valid();
-    copied_rows_are_as_wide_as_their_relation();
-    copied_tables_are_universal();
-    tables_of_constants_are_coalesced_alike();
-    let copied = copied_tables(alloc, &mapping, tables)?;
-    let mut files = table_files(alloc, target, mapping.rules.targets().as_slice(), copied)?;
-    files.push(verdict(alloc, target)?)?;
-    Ok(files)
+    let loaded = load(alloc, &mapping, &tables)?;
+    loaded.rules.are_valid();
+    let _ = loaded.pool.len();
+    Ok(loaded)
+}
+
+// The target of what is loaded. The steps are counted on a new ledger.
+fn exchanged<L: Ledger>(alloc: Global, loaded: &Loaded, blank: Blank) -> Result<Solved, Memory>
+    requires plain { IsPlain loaded.now.rules }
+    requires name { blank.name ≡ L.name }
+    requires parts { blank.parts ≡ L.parts }
+    requires some { 0 < blank.parts }
+    ensures { IfOk result (IsSolvedFrom loaded.now) }
+{
+    let mut steps = Steps::<L>::open(blank);
+    match exchange(alloc, loaded, &mut steps)? {
+        Outcome::Solved(solved) => Ok(solved),
+    }
 }

@@ -2,6 +2,7 @@
 use Rattle.std.proofs.lemmas.Result.{err_from_is_err_and}
 use Rattle.exchange_cli.specs.Commands.{command_of}
 use Rattle.exchange_cli.specs.Run.{device}
+use Rattle.exchange_cli.proofs.SizeLemmas.{table_is_wide, table_has_few_cells}
 use Rattle.exchange_cli.proofs.StepLemmas.{fetch_stops, comes_to_table, table_stops, table_read}
 use Rattle.exchange_cli.proofs.inputs.fetch_table.Goals as goal
 
@@ -26,3 +27,10 @@ returns-in-Ok-clause-reads g c =
     rw c.as_slice-in-Ok.ensures (table_read (g.S.Shelf.holds c.args.shelf.now) c.args.command.now.source.now c.args.relation.now c.args.limit
     c.in_ok-name.name c.in_ok-bytes.bytes c.in-Ok.facts c.in_ok-name.ensures c.in_ok-bytes.ensures.gives
     (rw c.as_slice.ensures at c.in-Ok.ensures.table))
+
+pub returns-in-Ok-clause-wide : goal.returns-in-Ok-clause-wide
+returns-in-Ok-clause-wide g c = table_is_wide c.args.relation.now c.as_slice.result.now c.in-Ok.facts c.in-Ok.ensures.table
+
+pub returns-in-Ok-clause-few : goal.returns-in-Ok-clause-few
+returns-in-Ok-clause-few g c =
+    table_has_few_cells c.args.relation.now c.as_slice.result.now c.in-Ok.facts c.in-Ok.ensures.table c.requires

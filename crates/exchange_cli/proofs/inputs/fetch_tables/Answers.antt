@@ -1,11 +1,13 @@
 -- The tables are read in turn, each with what is left of the limit.
-use Rattle.std.proofs.Common.{◌≡◌, ◌+◌, ◌∷◌, refl, sym, ap, ◌∙◌, arith, drop}
+use Rattle.std.proofs.Common.{◌≡◌, ◌+◌, ◌∷◌, refl, sym, ap, ◌∙◌, subst, arith, drop, get_or}
 use Rattle.std.proofs.lemmas.Result.{err_from_is_err_and}
 use Rattle.std.proofs.lemmas.List.{drop_more, drop_all}
+use Rattle.rule_core.specs.Validity.{IsRelation}
 use Rattle.mapping_core.specs.Mapping.{Meaning}
 use Rattle.exchange_cli.specs.Commands.{command_of}
 use Rattle.exchange_cli.specs.Run.{device}
 use Rattle.exchange_cli.specs.Steps.{ComesIn}
+use Rattle.exchange_cli.proofs.SizeLemmas.{none_is_read, one_more_is_read, all_are_read, all_have_few_cells}
 use Rattle.exchange_cli.proofs.StepLemmas.{GoesOnIn, goes_on_first, goes_on_more, goes_on_last, comes_next, keeps_both, stops_since}
 use Rattle.exchange_cli.proofs.inputs.fetch_tables.Goals as goal
 use Rattle.exchange_cli.proofs.inputs.fetch_tables.Goals.{After-relation-item, After-as_slice-relation-items}
@@ -15,6 +17,7 @@ pub loop-relation-init : goal.loop-relation-init
 loop-relation-init g c = record {
   keeps = record { same = refl; later = omega arith };
   goes_on = rw c.new-tables.ensures (goes_on_first (g.S.Shelf.holds c.args.shelf.now) c.args.command.now.source.now c.args.mapping.now.rules.sources);
+  read = rw c.new-tables.ensures (none_is_read c.args.mapping.now.rules.sources);
 }
 
 -- the relations that the loop goes through
@@ -49,7 +52,22 @@ loop-relation-preserved g c =
           c.args.mapping.now.rules.sources (drop (c.loop-relation.relation-index + 1) c.args.mapping.now.rules.sources)
           c.relation-item.result c.loop-relation.tables c.loop-relation.left c.in_ok-facts.len c.in_ok-facts.facts
           (goes_on_here g (goal.at.loop-relation-preserved g c).After-relation-item) (rw before.same at c.in_ok-facts.ensures.reads));
+      read =
+          let are = relations_are g (goal.at.loop-relation-preserved g c).After-as_slice-relation-items in
+          let within = rw are at c.loop-relation-test.true in
+          let is = rw are at c.relation-item.is in
+          rw c.in_ok-push.ensures.ok (one_more_is_read c.args.mapping.now.rules.sources c.loop-relation.tables c.loop-relation.relation-index
+          c.relation-item.result c.in_ok-facts.facts within is c.loop-relation.invariant.read c.in_ok-facts.ensures.wide
+          c.in_ok-facts.ensures.few);
     }
+
+pub fetch_table-requires : goal.fetch_table-requires
+fetch_table-requires g c =
+    let relation = c.relation-item.result in
+    let within = rw (c.as_slice-relation-items.ensures, c.sources.ensures) at c.loop-relation-test.true in
+    let is : relation ≡ get_or c.mapping.inside.rules.sources c.loop-relation.relation-index relation =
+    rw (c.as_slice-relation-items.ensures, c.sources.ensures) at c.relation-item.is in
+    subst IsRelation (sym is) (c.are_valid.ensures.relations.source_relations c.loop-relation.relation-index relation within)
 
 pub returns-in_err-facts-clause-keeps : goal.returns-in_err-facts-clause-keeps
 returns-in_err-facts-clause-keeps g c =
@@ -84,3 +102,18 @@ returns-clause-reads g c =
     let none = drop_all c.loop-relation.relation-index sources (rw are at c.loop-relation-test.false) in
     goes_on_last (g.S.Shelf.holds c.args.shelf.now) c.args.command.now.source.now sources c.loop-relation.tables c.loop-relation.left
     (rw none at c.loop-relation.invariant.goes_on)
+
+pub returns-clause-tables : goal.returns-clause-tables
+returns-clause-tables g c =
+    let are = relations_are g (goal.at.returns-clause-tables g c).After-as_slice-relation-items in
+    (all_are_read c.args.mapping.now.rules.sources c.loop-relation.tables c.loop-relation.relation-index
+    (rw are at c.loop-relation-test.false) c.loop-relation.invariant.read).each
+
+pub returns-clause-few : goal.returns-clause-few
+returns-clause-few g c =
+    let sources = c.args.mapping.now.rules.sources in
+    let are = relations_are g (goal.at.returns-clause-few g c).After-as_slice-relation-items in
+    let valid = rw (ap (λ (m : Meaning). m.rules) c.mapping.view_is) at c.are_valid.ensures in
+    all_have_few_cells sources c.loop-relation.tables
+    (all_are_read sources c.loop-relation.tables c.loop-relation.relation-index (rw are at c.loop-relation-test.false) c.loop-relation.invariant.read)
+    (omega (arith, valid.relations.most))

@@ -1,6 +1,7 @@
-use Rattle.std.proofs.Common.{drop}
+use Rattle.std.proofs.Common.{drop, take}
 use Rattle.exchange_cli.specs.Run.{device}
 use Rattle.exchange_cli.specs.Steps.{Keeps}
+use Rattle.exchange_cli.proofs.SizeLemmas.{AreRead}
 use Rattle.exchange_cli.proofs.StepLemmas.{GoesOnIn}
 use Rattle.exchange_cli.proofs.inputs.fetch_tables.Given as goal
 
@@ -12,4 +13,5 @@ invariant-loop-relation g l =
       keeps : Keeps (device (holds l.fn.shelf) (faults l.fn.shelf)) (device (holds l.shelf) (faults l.shelf));
       goes_on : GoesOnIn (holds l.fn.shelf) l.command.source.now l.mapping.rules.sources
           (drop l.relation-index l.mapping.rules.sources) l.tables l.left;
+      read : AreRead (take l.relation-index l.mapping.rules.sources) l.tables;
     }

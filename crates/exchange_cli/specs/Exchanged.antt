@@ -1,0 +1,27 @@
+-- What is loaded of what was read, and what an exchange gives of it.
+use Rattle.term_core.specs.Pool.{IsPool}
+use Rattle.rule_core.specs.Rebase.{IsRebased}
+use Rattle.rule_core.specs.Validity.{IsValid}
+use Rattle.mapping_core.specs.Mapping.{HasItsConstants}
+use Rattle.exchange_engine.specs.Loading.{LoadedOf, HasEachConstant, AreFactsOf}
+use Rattle.exchange_engine.specs.Solved.{AreTargetTables, AreCoalesced, AreUniversal, AreWithinPool, AreUnknownsOf}
+use Rattle.exchange_engine.specs.declared.outcome.Solved.{Solved}
+use Rattle.exchange_cli.specs.Target.{Inputs}
+
+-- what is loaded of what was read: the same mapping by the numbers of a pool, and the same facts
+pub record IsLoadedFrom (inputs : Inputs) (loaded : LoadedOf) : Type 0 where
+  pub read_valid : IsValid inputs.mapping.rules
+  pub constants : HasItsConstants inputs.mapping.rules inputs.mapping.pool
+  pub valid : IsValid loaded.rules
+  pub pool : IsPool loaded.pool
+  pub each : HasEachConstant loaded
+  pub rules : IsRebased inputs.mapping.pool loaded.pool inputs.mapping.rules loaded.rules
+  pub facts : AreFactsOf inputs.tables loaded.pool loaded.table
+
+-- what an exchange without equalities gives of what is loaded
+pub record IsSolvedFrom (loaded : LoadedOf) (solved : Solved) : Type 0 where
+  pub tables : AreTargetTables loaded.rules.targets solved.tables
+  pub coalesced : AreCoalesced solved.tables
+  pub universal : AreUniversal loaded solved.tables
+  pub within : AreWithinPool loaded solved.tables
+  pub nulls : AreUnknownsOf solved.tables solved.nulls

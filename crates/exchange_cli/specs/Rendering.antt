@@ -1,0 +1,34 @@
+-- How a target is written: each constant as its text, and each unknown by its number.
+use Rattle.std.specs.Prelude.{◌≡◌, ℕ, ◌+◌, List, [], ◌∷◌, ◌++◌, map, count_by}
+use Rattle.std.specs.Ordering.{is_lt}
+use Rattle.term_core.specs.declared.term.Unknown.{Unknown as HeldUnknown}
+use Rattle.term_core.specs.declared.term.Term.{Term}
+use Rattle.term_core.specs.declared.term.Term.TheVariants.{Const, Null}
+use Rattle.term_core.specs.Order.{unknown_cmp}
+use Rattle.rule_core.specs.declared.rules.Relation.{Relation}
+use Rattle.rule_core.specs.Terms.{numbered, TermOf, constant, unknown, StampedOf}
+use Rattle.exchange_engine.specs.Loading.{text_in}
+use Rattle.exchange_engine.specs.Solved.{TermTable}
+use Rattle.exchange_cli.specs.Names.{verdict_name}
+use Rattle.exchange_cli.specs.Target.{TargetTable, AreTableFiles, solved}
+use Rattle.exchange_cli.specs.declared.file.FileOut.{FileOut}
+
+-- the number of an unknown among those of a target: its place in their order, counted from 1
+abbrev pub rank_in : List HeldUnknown → HeldUnknown → ℕ
+rank_in nulls u = count_by (λ w. is_lt (unknown_cmp w u)) nulls + 1
+
+-- a term as it is stored
+abbrev pub stored_term : List (List ℕ) → List HeldUnknown → Term → TermOf (List ℕ)
+stored_term pool nulls (Const c) = constant (text_in pool c)
+stored_term pool nulls (Null u) = unknown (numbered (rank_in nulls u))
+
+-- the rows of a table as they are stored, over the same spans
+abbrev pub stored_table : List (List ℕ) → List HeldUnknown → TermTable → TargetTable
+stored_table pool nulls table = map (λ e. record { row = map (stored_term pool nulls) e.row; span = e.span }) table
+
+-- the tables of the relations as files, in their order, and then the verdict
+pub record AreRendered (pool : List (List ℕ)) (nulls : List HeldUnknown) (relations : List Relation) (tables : List TermTable)
+    (prefix : List ℕ) (files : List FileOut) : Type 0 where
+  pub stored : List FileOut
+  pub named : AreTableFiles prefix relations stored (map (stored_table pool nulls) tables)
+  pub all : files ≡ stored ++ record { name = verdict_name prefix; bytes = solved } ∷ []

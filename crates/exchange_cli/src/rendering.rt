@@ -1,0 +1,123 @@
+//! A target as files: each constant as its text, and each unknown by its number among those of the target.
+
+ghost use Rattle.std.specs.Prelude.{◌≡◌, All, AllPairs, IfOk, length, map};
+ghost use Rattle.std.specs.declared.cmp.Ordering.TheVariants.{Less};
+ghost use Rattle.term_core.specs.Order.{unknown_cmp};
+ghost use Rattle.temporal_csv.specs.Cells.{term_of};
+ghost use Rattle.temporal_csv.specs.Stored.{stamped_row};
+ghost use Rattle.exchange_engine.specs.Solved.{AreTargetTables, AreWithinPool, IsTermWithin};
+ghost use Rattle.exchange_cli.specs.Rendering.{AreRendered, rank_in, stored_table, stored_term};
+ghost use Rattle.exchange_cli.specs.Target.{AreTableFiles};
+
+use crate::file::FileOut;
+use crate::storing::{table_file, verdict};
+use coalescer::Stamped;
+use exchange_engine::{Loaded, Solved};
+use std::alloc::Global;
+use temporal_csv::{Cell, OutRow};
+use term_core::laws::unknowns_have_one_order;
+use term_core::{Items, Memory, Pool, Term, Text, Unknown};
+
+/// The files of a target, in the order in which they are stored: a table for each relation, and then the verdict.
+pub fn render(
+    alloc: Global,
+    loaded: &Loaded,
+    solved: &Solved,
+    target: &str,
+) -> Result<Items<FileOut>, Memory>
+    requires tables { AreTargetTables loaded.now.rules.targets solved.now.tables }
+    requires within { AreWithinPool loaded.now solved.now.tables }
+    requires ascending { AllPairs (λ u w. unknown_cmp u w ≡ Less) solved.now.nulls }
+    ensures { IfOk result (AreRendered loaded.now.pool solved.now.nulls loaded.now.rules.targets
+        solved.now.tables target.now) }
+{
+    let mut files = table_files(alloc, loaded, solved, target)?;
+    files.push(verdict(alloc, target)?)?;
+    Ok(files)
+}
+
+// The files of the tables, in the order of the relations.
+fn table_files(
+    alloc: Global,
+    loaded: &Loaded,
+    solved: &Solved,
+    target: &str,
+) -> Result<Items<FileOut>, Memory>
+    requires tables { AreTargetTables loaded.now.rules.targets solved.now.tables }
+    requires within { AreWithinPool loaded.now solved.now.tables }
+    requires ascending { AllPairs (λ u w. unknown_cmp u w ≡ Less) solved.now.nulls }
+    ensures { IfOk result (λ files. AreTableFiles target.now loaded.now.rules.targets files
+        (map (stored_table loaded.now.pool solved.now.nulls) solved.now.tables)) }
+{
+    loaded.rules.are_valid();
+    let nulls = solved.nulls.as_slice();
+    let relations = loaded.rules.targets().as_slice();
+    let tables = solved.tables.as_slice();
+    let mut files = Items::new(alloc);
+    for (place, table) in tables.iter().enumerate() {
+        let rows = stored_rows(alloc, &loaded.pool, nulls, table.as_slice())?;
+        files.push(table_file(alloc, target, &relations[place], &rows)?)?;
+    }
+    Ok(files)
+}
+
+// The rows of a table as they are stored.
+fn stored_rows(
+    alloc: Global,
+    pool: &Pool,
+    nulls: &[Unknown],
+    table: &[Stamped],
+) -> Result<Items<OutRow>, Memory>
+    requires within { All (λ e. All (IsTermWithin (length pool.now)) e.row) table.now }
+    requires ascending { AllPairs (λ u w. unknown_cmp u w ≡ Less) nulls.now }
+    ensures { IfOk result (λ rows.
+        rows ≡ map stamped_row (stored_table pool.now nulls.now table.now)) }
+{
+    let mut rows = Items::new(alloc);
+    for entry in table {
+        let cells = stored_cells(alloc, pool, nulls, entry.row.as_slice())?;
+        let span = Some(entry.span);
+        rows.push(OutRow { cells, span })?;
+    }
+    Ok(rows)
+}
+
+// The cells of a row as they are stored.
+fn stored_cells(
+    alloc: Global,
+    pool: &Pool,
+    nulls: &[Unknown],
+    row: &[Term],
+) -> Result<Items<Cell>, Memory>
+    requires within { All (IsTermWithin (length pool.now)) row.now }
+    requires ascending { AllPairs (λ u w. unknown_cmp u w ≡ Less) nulls.now }
+    ensures { IfOk result (λ cells.
+        map term_of cells ≡ map (stored_term pool.now nulls.now) row.now) }
+{
+    let mut cells = Items::new(alloc);
+    for term in row {
+        cells.push(stored_cell(alloc, pool, nulls, term)?)?;
+    }
+    Ok(cells)
+}
+
+// A constant by its text, and an unknown by its number.
+fn stored_cell(alloc: Global, pool: &Pool, nulls: &[Unknown], term: &Term) -> Result<Cell, Memory>
+    requires within { IsTermWithin (length pool.now) term.now }
+    requires ascending { AllPairs (λ u w. unknown_cmp u w ≡ Less) nulls.now }
+    ensures { IfOk result (λ cell. term_of cell ≡ stored_term pool.now nulls.now term.now) }
+{
+    match term {
+        Term::Const(id) => Ok(Cell::Const(Text::from_str(alloc, pool.text(*id))?)),
+        Term::Null(unknown) => Ok(Cell::Null(rank(nulls, unknown))),
+    }
+}
+
+// The number of an unknown among ascending ones: its place, counted from 1.
+fn rank(nulls: &[Unknown], unknown: &Unknown) -> u64
+    requires { AllPairs (λ u w. unknown_cmp u w ≡ Less) nulls.now }
+    ensures { result ≡ rank_in nulls.now unknown.now }
+{
+    unknowns_have_one_order();
+    nulls.partition_point(|other| other.cmp(unknown).is_lt()) as u64 + 1
+}
