@@ -8,7 +8,5 @@ mod names;
 mod piece;
 mod rows;
 mod store;
-#[cfg(test)]
-mod tests;
 
 pub use store::NullStore;
