@@ -1,5 +1,5 @@
 -- How target tables become files.
-use Rattle.std.proofs.Common.{◌≡◌, List, [], ◌∷◌, ◌++◌, refl, ℕ}
+use Rattle.std.proofs.Common.{List, [], ◌∷◌, ◌++◌, refl, ℕ}
 use Rattle.rule_core.specs.declared.rules.Relation.{Relation}
 use Rattle.exchange_cli.specs.Target.{TargetTable, IsTableFile, AreTableFiles}
 use Rattle.exchange_cli.specs.declared.file.FileOut.{FileOut}

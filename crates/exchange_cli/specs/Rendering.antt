@@ -6,7 +6,7 @@ use Rattle.term_core.specs.declared.term.Term.{Term}
 use Rattle.term_core.specs.declared.term.Term.TheVariants.{Const, Null}
 use Rattle.term_core.specs.Order.{unknown_cmp}
 use Rattle.rule_core.specs.declared.rules.Relation.{Relation}
-use Rattle.rule_core.specs.Terms.{numbered, TermOf, constant, unknown, StampedOf}
+use Rattle.rule_core.specs.Terms.{numbered, TermOf, constant, unknown}
 use Rattle.exchange_engine.specs.Loading.{text_in}
 use Rattle.exchange_engine.specs.Solved.{TermTable}
 use Rattle.exchange_cli.specs.Names.{verdict_name}

@@ -1,5 +1,5 @@
 -- What the steps of a run do. No public clause cites this module.
-use Rattle.std.specs.Prelude.{◌≡◌, ℕ, ◌≤◌, List, [], ◌<◌, Option, IfSome, ⊤, length, take, slice_index_or}
+use Rattle.std.specs.Prelude.{◌≡◌, ℕ, ◌≤◌, List, ◌<◌, Option, IfSome, ⊤, length, take, slice_index_or}
 use Rattle.std.specs.Option.{option_map}
 use Rattle.std.specs.FinMap.{get}
 use Rattle.shelf_core.specs.Held.{Held, OthersStay}

@@ -175,11 +175,12 @@ fn forms_to_come_are_refused(rt: HostRuntime) -> Result<(), Fail> {
 // A mapping, its source tables, and a table of its target.
 type Solved<'a> = (&'a [u8], &'a [(&'a str, &'a [u8])], &'a str, &'a [u8]);
 
-// Solved runs: a stored table, with the verdict and the line. The last two are worked by hand: an unknown whose firing
-// holds over two rows, and salaries of which some are not known.
+// Solved runs: a stored table, with the verdict and the line. The last three are worked by hand: an unknown whose firing
+// holds over two rows; two atoms that share an unknown, a variable that the head does not use, and a tgd without a frontier,
+// which fires always; and salaries of which some are not known.
 #[test]
 fn solved_runs_store_the_target(rt: HostRuntime) -> Result<(), Fail> {
-    let rows: [Solved<'static>; 6] = [
+    let rows: [Solved<'static>; 7] = [
         (
             M0,
             &[("src/A.csv", FIRST_RUN)],
@@ -215,6 +216,12 @@ fn solved_runs_store_the_target(rt: HostRuntime) -> Result<(), Fail> {
             &[("src/A.csv", b"x,y,start,end\na,1,1,5\na,2,3,8\n")],
             "out/B.csv",
             b"x,z,start,end\na,?1,1,8\n",
+        ),
+        (
+            b"source A(x)\ntarget B(x, y)\ntgd t: A(x) -> exists z, w: B(x, z), B(z, x)\ntgd u: A(x) -> exists y: B(\"k\", y)\n",
+            &[("src/A.csv", b"x,start,end\na,-inf,3\nb,3,inf\n")],
+            "out/B.csv",
+            b"x,y,start,end\na,?1,-inf,3\nb,?2,3,inf\nk,?3,-inf,inf\n?1,a,-inf,3\n?2,b,3,inf\n",
         ),
         (STAFF, STAFF_TABLES, "out/Emp.csv", STAFF_TARGET),
     ];

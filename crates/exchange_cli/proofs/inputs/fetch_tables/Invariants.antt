@@ -1,3 +1,4 @@
+-- The tables so far are read, within what is left of the limit.
 use Rattle.std.proofs.Common.{drop, take}
 use Rattle.exchange_cli.specs.Run.{device}
 use Rattle.exchange_cli.specs.Steps.{Keeps}

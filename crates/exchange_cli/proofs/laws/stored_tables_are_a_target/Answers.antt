@@ -1,3 +1,4 @@
+-- The laws that the target stands on are those of the crates below.
 use Rattle.exchange_cli.proofs.TargetLemmas.{stored_is_target}
 use Rattle.exchange_cli.proofs.laws.stored_tables_are_a_target.Goals as goal
 

@@ -1,3 +1,4 @@
+-- The place of an unknown is the number of those before it.
 use Rattle.std.proofs.Common.{◌+◌, sym, ap, rules}
 use Rattle.std.specs.Ordering.{is_lt}
 use Rattle.std.proofs.lemmas.List.Sorted.{IsPartitionPoint-from_clause}

@@ -1,3 +1,4 @@
+-- The terms so far are written.
 use Rattle.std.proofs.Common.{◌≡◌, map, take}
 use Rattle.temporal_csv.specs.Cells.{term_of}
 use Rattle.exchange_cli.specs.Rendering.{stored_term}

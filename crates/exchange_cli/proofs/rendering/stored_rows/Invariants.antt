@@ -1,3 +1,4 @@
+-- The rows so far are written.
 use Rattle.std.proofs.Common.{◌≡◌, map, take}
 use Rattle.temporal_csv.specs.Stored.{stamped_row}
 use Rattle.exchange_cli.specs.Rendering.{stored_table}

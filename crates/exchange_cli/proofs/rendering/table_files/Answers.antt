@@ -1,6 +1,5 @@
 -- Each table goes into the file of the relation at its place.
 use Rattle.std.proofs.Common.{◌≡◌, ◌<◌, map, ap, sym, ◌∙◌, subst, length, get_or}
-use Rattle.rule_core.specs.declared.rules.Relation.{Relation}
 use Rattle.rule_core.specs.Validity.{IsRelation}
 use Rattle.temporal_csv.specs.Stored.{stamped_row}
 use Rattle.exchange_engine.specs.Loading.{LoadedOf}

@@ -1,3 +1,4 @@
+-- The tables so far have their files.
 use Rattle.std.proofs.Common.{map, take}
 use Rattle.exchange_cli.specs.Rendering.{stored_table}
 use Rattle.exchange_cli.specs.Target.{AreTableFiles}

@@ -1,3 +1,4 @@
+-- What loading promises, with the facts that the types keep.
 use Rattle.std.proofs.Common.{subst}
 use Rattle.rule_core.specs.Validity.{IsValid}
 use Rattle.mapping_core.specs.Mapping.{Meaning, HasItsConstants}
