@@ -25,7 +25,8 @@ use Rattle.rule_core.proofs.SnapshotLemmas.{snapshot_covers, covered_in_snapshot
 use Rattle.fact_table.specs.Rows.{SeenRow, row_at}
 use Rattle.body_match.specs.declared.found.Match.{Match}
 use Rattle.body_match.specs.Matches.{seen_value, IsImage, IsImageAt, HoldsAt, IsMatch}
-use Rattle.body_match.specs.Snapshots.{seen_term, fact_of, facts_of, AgreesWith, AreMatchesAtInstants}
+use Rattle.fact_table.specs.Snapshots.{seen_term, fact_of, facts_of}
+use Rattle.body_match.specs.Snapshots.{AgreesWith, AreMatchesAtInstants}
 use Rattle.body_match.proofs.ListLemmas.{at_within, within_from_at, contains_from_at, at_from_contains, at_front, at_seam, maps_at, maps_from_each, zip_at, zip_length, zip_from_each}
 use Rattle.body_match.proofs.PlaceLemmas.{atom_from_occurs, occurs_from_atom}
 use Rattle.body_match.proofs.SearchLemmas.{some_and, and_some, same_some}

@@ -9,8 +9,6 @@ pub mod laws;
 mod listing;
 mod places;
 mod search;
-#[cfg(test)]
-mod tests;
 
 pub use found::Match;
 pub use listing::{matches, matches_with};

@@ -10,11 +10,11 @@ ghost use Rattle.body_match.specs.Search.{Lists, Use};
 use crate::Match;
 use crate::places::first_places;
 use crate::search::{Search, list};
-use fact_table::{FactSource, Steps};
+use fact_table::FactSource;
 use rule_core::Atom;
 use std::alloc::Global;
 use std::sync::ledger::Ledger;
-use term_core::{Items, Memory};
+use term_core::{Items, Memory, Steps};
 
 /// All matches of a body, whose variables are numbered below `vars`, each once, in order of their rows.
 pub fn matches<F: FactSource, L: Ledger>(

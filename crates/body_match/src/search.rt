@@ -9,12 +9,12 @@ ghost use Rattle.body_match.specs.Search.{IsTask, Agrees, IsPartial, IsListed, I
 
 use crate::Match;
 use crate::places::Place;
-use fact_table::{FactSource, RowHead, Steps};
+use fact_table::{FactSource, RowHead};
 use rule_core::{Arg, Atom};
 use std::alloc::Global;
 use std::marker::Model;
 use std::sync::ledger::Ledger;
-use term_core::{Items, Memory, Seen};
+use term_core::{Items, Memory, Seen, Steps};
 use time_line::Span;
 
 /// What is searched for: a body, a place in the first atom that has a variable, a store, and a row that each match is to

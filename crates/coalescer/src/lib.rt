@@ -3,8 +3,6 @@
 
 mod coalescing;
 mod stamped;
-#[cfg(test)]
-mod tests;
 
 pub use coalescing::coalesce;
 pub use stamped::Stamped;

@@ -8,8 +8,6 @@ mod parts;
 mod printing;
 mod quotes;
 mod scan;
-#[cfg(test)]
-mod tests;
 mod token;
 
 pub use declaration::read_declaration;

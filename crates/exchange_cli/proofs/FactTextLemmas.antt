@@ -11,9 +11,9 @@ use Rattle.rule_core.specs.Renaming.{renamed_term, renamed_fact, renamed_facts, 
 use Rattle.rule_core.proofs.ListLemmas.{Contains-nil, Contains-head, Contains-cons, Contains-from_map}
 use Rattle.fact_table.specs.declared.fact.Fact.{Fact}
 use Rattle.fact_table.specs.Rows.{rows_of}
-use Rattle.body_match.specs.Snapshots.{with_terms}
+use Rattle.fact_table.specs.Snapshots.{with_terms}
 use Rattle.body_match.specs.Snapshots as shown
-use Rattle.normaliser.specs.Normalised.{snapshot_of}
+use Rattle.fact_table.specs.Snapshots.{snapshot_of}
 use Rattle.exchange_engine.specs.Loading.{RawTable, text_in, as_text, AreFactsOf}
 
 -- ---- snapshots

@@ -26,9 +26,9 @@ use Rattle.rule_core.specs.Renaming.{Renaming, renamed_term, renamed_facts, Hold
 use Rattle.mapping_core.specs.Mapping.{HasItsConstants}
 use Rattle.fact_table.specs.declared.fact.Fact.{Fact}
 use Rattle.fact_table.specs.Rows.{rows_of}
-use Rattle.body_match.specs.Snapshots.{with_terms}
+use Rattle.fact_table.specs.Snapshots.{with_terms}
 use Rattle.body_match.specs.Snapshots as shown
-use Rattle.normaliser.specs.Normalised.{snapshot_of}
+use Rattle.fact_table.specs.Snapshots.{snapshot_of}
 use Rattle.exchange_engine.specs.Loading.{LoadedOf, HasEachConstant, AreFactsOf}
 use Rattle.exchange_engine.specs.Solved.{TermTable, AreCoalesced, AreUniversal, AreUnknownsOf, IsTermWithin, AreWithinPool}
 use Rattle.exchange_cli.specs.Target.{Inputs, IsTarget, name_of, source_of}

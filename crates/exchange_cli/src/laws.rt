@@ -13,7 +13,7 @@ ghost use Rattle.exchange_cli.specs.Work.{Reads, FailsFirst};
 ghost use Rattle.exchange_cli.specs.declared.ending.Ending.{Ending};
 ghost use Rattle.exchange_cli.specs.declared.ending.Ending.TheVariants.{Read};
 
-use body_match::laws::rows_of_a_table_are_its_facts;
+use fact_table::laws::rows_of_a_table_are_its_facts;
 use mapping_core::laws::a_mapping_is_one;
 use rule_core::laws::{
     a_pool_begins_a_renaming, a_renaming_keeps_what_holds, instances_are_read_as_sets,

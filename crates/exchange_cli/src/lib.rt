@@ -15,8 +15,6 @@ mod rendering;
 mod reporting;
 mod solving;
 mod storing;
-#[cfg(test)]
-mod tests;
 mod top;
 
 pub use ending::Ending;

@@ -13,11 +13,10 @@ use crate::inputs::Inputs;
 use crate::laws::stored_tables_are_a_target;
 use crate::rendering::render;
 use exchange_engine::{Loaded, Outcome, Solved, exchange, load};
-use fact_table::Steps;
 use std::alloc::Global;
 use std::marker::Brand;
 use std::sync::ledger::{Blank, Ledger};
-use term_core::{Items, Memory};
+use term_core::{Items, Memory, Steps};
 
 /// The files of a solved exchange, in the order in which they are stored.
 pub fn solve(alloc: Global, target: &str, inputs: Inputs) -> Result<Items<FileOut>, Memory>

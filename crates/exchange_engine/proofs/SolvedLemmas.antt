@@ -28,10 +28,11 @@ use Rattle.rule_core.proofs.ListLemmas.{Contains-from_map, All-from_map}
 use Rattle.rule_core.proofs.SnapshotLemmas.{snapshot_covers, covered_in_snapshot}
 use Rattle.fact_table.specs.declared.fact.Fact.{Fact}
 use Rattle.fact_table.specs.Rows.{rows_of}
-use Rattle.body_match.specs.Snapshots.{facts_of, with_terms}
+use Rattle.fact_table.specs.Snapshots.{facts_of, with_terms}
 use Rattle.body_match.proofs.ListLemmas.{contains_from_at, zip_from_each}
 use Rattle.body_match.proofs.SearchLemmas.{some_and, same_some}
-use Rattle.normaliser.specs.Normalised.{snapshot_of, HaveSameSnapshots}
+use Rattle.fact_table.specs.Snapshots.{snapshot_of}
+use Rattle.normaliser.specs.Normalised.{HaveSameSnapshots}
 use Rattle.tgd_chase.specs.Fired.{HoldFiringFacts, IsGround}
 use Rattle.exchange_engine.specs.Solved.{TermTable, AreCoalesced, AreTargetTables, AreUnknownsOf, IsUnknownOf, IsTermWithin, IsMadeBy}
 use Rattle.exchange_engine.specs.Loading.{LoadedOf, HasEachConstant}

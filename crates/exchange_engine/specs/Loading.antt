@@ -9,7 +9,7 @@ use Rattle.rule_core.specs.Tables.{facts_of, as_terms}
 use Rattle.rule_core.specs.Renaming.{renamed_fact}
 use Rattle.mapping_core.specs.Mapping.{AnyHasConstant}
 use Rattle.fact_table.specs.declared.fact.Fact.{Fact}
-use Rattle.body_match.specs.Snapshots.{with_terms}
+use Rattle.fact_table.specs.Snapshots.{with_terms}
 
 -- what is loaded: the rules, the texts of all constants, and the facts of the source
 pub record LoadedOf : Type 0 where

@@ -17,7 +17,8 @@ use Rattle.rule_core.specs.Solution.{IsUniversal}
 use Rattle.rule_core.specs.Coalesced.{IsCoalesced}
 use Rattle.rule_core.specs.Firing.{frontier_of}
 use Rattle.fact_table.specs.declared.fact.Fact.{Fact}
-use Rattle.normaliser.specs.Normalised.{snapshot_of, HaveSameSnapshots, IsEqualOrDisjoint}
+use Rattle.fact_table.specs.Snapshots.{snapshot_of}
+use Rattle.normaliser.specs.Normalised.{HaveSameSnapshots, IsEqualOrDisjoint}
 use Rattle.failure_trace.specs.declared.firing.Firing.{Firing}
 use Rattle.tgd_chase.specs.Fired.{AreFirings}
 use Rattle.exchange_engine.specs.Loading.{LoadedOf}

@@ -6,12 +6,11 @@ ghost use Rattle.exchange_engine.specs.Solved.{IsPlain, IfSolved, AreCoalesced, 
 use crate::tables::tables_of;
 use crate::unknowns::unknowns_of;
 use crate::{Counts, Loaded, Outcome, Solved};
-use body_match::laws::rows_of_a_table_are_its_facts;
-use fact_table::Steps;
+use fact_table::laws::rows_of_a_table_are_its_facts;
 use normaliser::normalise;
 use std::alloc::Global;
 use std::sync::ledger::Ledger;
-use term_core::Memory;
+use term_core::{Memory, Steps};
 use tgd_chase::fire;
 use tgd_chase::laws::solutions_are_what_firing_facts_map_into;
 

@@ -9,11 +9,11 @@ ghost use Rattle.exchange_engine.specs.Solved.{AreCoalesced};
 ghost use Rattle.exchange_engine.specs.Grouped.{AreBelow, IsRowOf, HaveFacts, AddsRow, HoldSnapshotsOf};
 
 use coalescer::{Stamped, coalesce};
-use fact_table::{FactSource, RowHead, Steps};
+use fact_table::{FactSource, RowHead};
 use null_store::NullStore;
 use std::alloc::Global;
 use std::sync::ledger::Ledger;
-use term_core::{Items, Memory, Seen, Term};
+use term_core::{Items, Memory, Seen, Steps, Term};
 
 /// A coalesced table for each of so many relations. At every instant they hold what the store does.
 pub fn tables_of<L: Ledger>(

@@ -3,9 +3,9 @@
 ghost use Rattle.std.specs.Prelude.{◌≡◌, ◌≤◌, ℕ, List, Option, Some, length};
 ghost use Rattle.fact_table.specs.Rows.{SeenRow, HasCell, head_at, cell_at};
 
-use crate::{RowHead, Steps};
+use crate::RowHead;
 use std::sync::ledger::Ledger;
-use term_core::Seen;
+use term_core::{Seen, Steps};
 
 /// Rows that are told by numbers. A number may have no row.
 pub trait FactSource {

@@ -6,12 +6,12 @@ ghost use Rattle.fact_table.specs.declared.fact.Fact.{Fact};
 ghost use Rattle.fact_table.specs.Facts.{IsTable, HasAt, key_cmp};
 ghost use Rattle.fact_table.specs.Rows.{HasCell, cell_at, rows_of};
 
-use crate::{Fact, FactSource, RowHead, Steps};
+use crate::{Fact, FactSource, RowHead};
 use std::alloc::Global;
 use std::cmp::Ordering;
 use std::marker::Model;
 use std::sync::ledger::Ledger;
-use term_core::{ConstId, Items, Memory, Seen};
+use term_core::{ConstId, Items, Memory, Seen, Steps};
 
 /// Facts in order, each once. The number of a fact is its place.
 #[derive(Debug, Drop)]

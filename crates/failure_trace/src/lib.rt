@@ -2,7 +2,5 @@
 #![tactic(auto)]
 
 mod firing;
-#[cfg(test)]
-mod tests;
 
 pub use firing::{Firing, Support};

@@ -5,8 +5,6 @@ pub mod laws;
 mod mapping;
 mod printing;
 mod reading;
-#[cfg(test)]
-mod tests;
 
 pub use mapping::Mapping;
 pub use printing::print_mapping;

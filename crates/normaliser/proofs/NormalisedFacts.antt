@@ -14,7 +14,8 @@ use Rattle.rule_core.proofs.ListLemmas.{Contains-head}
 use Rattle.fact_table.specs.declared.fact.Fact.{Fact}
 use Rattle.fact_table.specs.Rows.{rows_of}
 use Rattle.body_match.specs.Matches.{HoldsAt}
-use Rattle.normaliser.specs.Normalised.{snapshot_of, IsTimelessMatch, AreEqualInTime, IsEqualOrDisjoint}
+use Rattle.fact_table.specs.Snapshots.{snapshot_of}
+use Rattle.normaliser.specs.Normalised.{IsTimelessMatch, AreEqualInTime, IsEqualOrDisjoint}
 
 abbrev a : ConstId
 a = record { 0 = 7 }

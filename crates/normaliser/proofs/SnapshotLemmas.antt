@@ -10,8 +10,9 @@ use Rattle.rule_core.proofs.SnapshotLemmas.{snapshot_covers, covered_in_snapshot
 use Rattle.fact_table.specs.declared.fact.Fact.{Fact}
 use Rattle.fact_table.specs.Facts.{HasAt}
 use Rattle.fact_table.specs.Rows.{row_of, rows_of}
-use Rattle.body_match.specs.Snapshots.{seen_term, fact_of, facts_of}
-use Rattle.normaliser.specs.Normalised.{snapshot_of, HaveSameSnapshots}
+use Rattle.fact_table.specs.Snapshots.{seen_term, fact_of, facts_of}
+use Rattle.fact_table.specs.Snapshots.{snapshot_of}
+use Rattle.normaliser.specs.Normalised.{HaveSameSnapshots}
 use Rattle.normaliser.specs.Cut.{IsCell, AreCut}
 
 -- a fact of a table is a fact with terms, and each such fact is one of the table

@@ -8,15 +8,10 @@ use Rattle.rule_core.specs.declared.rules.Atom.{Atom}
 use Rattle.rule_core.specs.declared.rules.Tgd.{Tgd}
 use Rattle.rule_core.specs.Mapping.{RuleSet}
 use Rattle.rule_core.specs.Terms.{FactOf}
-use Rattle.rule_core.specs.Snapshot.{snapshot_at}
 use Rattle.fact_table.specs.declared.fact.Fact.{Fact}
 use Rattle.fact_table.specs.Rows.{SeenRow, row_at, rows_of}
+use Rattle.fact_table.specs.Snapshots.{snapshot_of}
 use Rattle.body_match.specs.Matches.{seen_value, IsImageAt, HoldsAt}
-use Rattle.body_match.specs.Snapshots.{facts_of}
-
--- the facts that a table holds at an instant
-abbrev pub snapshot_of : List Fact → ℤ → List (FactOf ConstId)
-snapshot_of table t = snapshot_at (facts_of (rows_of table)) t
 
 -- at every instant the two tables hold the same facts
 abbrev pub HaveSameSnapshots : List Fact → List Fact → Type 0

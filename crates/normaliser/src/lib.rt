@@ -6,7 +6,5 @@
 mod ends;
 mod pieces;
 mod table;
-#[cfg(test)]
-mod tests;
 
 pub use table::normalise;

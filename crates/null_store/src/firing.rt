@@ -12,10 +12,9 @@ ghost use Rattle.null_store.specs.declared.piece.NamedPiece.{NamedPiece};
 
 use crate::piece::NamedPiece;
 use crate::rows::RowList;
-use fact_table::Steps;
 use rule_core::{Arg, Atom, Tgd};
 use std::sync::ledger::Ledger;
-use term_core::{ConstId, Seen};
+use term_core::{ConstId, Seen, Steps};
 use time_line::Span;
 
 // The most variables that a tgd has.

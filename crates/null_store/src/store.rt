@@ -12,13 +12,13 @@ use crate::firing::fire;
 use crate::names::{Name, Names};
 use crate::piece::NamedPiece;
 use crate::rows::RowList;
-use fact_table::{FactSource, RowHead, Steps};
+use fact_table::{FactSource, RowHead};
 use rule_core::Rules;
 use std::alloc::Global;
 use std::cmp::Ordering;
 use std::marker::Model;
 use std::sync::ledger::Ledger;
-use term_core::{ConstId, Items, Memory, Seen, Unknown};
+use term_core::{ConstId, Items, Memory, Seen, Steps, Unknown};
 use time_line::Span;
 
 /// Rows of a target. Each piece is in a row, and the rows that hold it have its span. Pieces of one

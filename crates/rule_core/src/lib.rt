@@ -10,8 +10,6 @@ mod queries;
 mod rebase;
 mod relations;
 mod rules;
-#[cfg(test)]
-mod tests;
 
 pub use checked::Rules;
 pub use dependencies::frontier;

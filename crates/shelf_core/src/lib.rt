@@ -14,8 +14,6 @@ mod memory_sink;
 mod shelf;
 mod sink;
 mod std_sink;
-#[cfg(test)]
-mod tests;
 mod transfer;
 
 pub use bytes::Bytes;

@@ -11,8 +11,6 @@ pub mod laws;
 mod out_row;
 mod stored;
 mod table;
-#[cfg(test)]
-mod tests;
 
 pub use cell::{Cell, cell_text};
 pub use fact::RawFact;

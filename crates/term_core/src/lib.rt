@@ -8,9 +8,8 @@ pub mod laws;
 mod memory;
 mod pool;
 mod slots;
+mod steps;
 mod term;
-#[cfg(test)]
-mod tests;
 mod text;
 
 pub use const_id::ConstId;
@@ -18,5 +17,6 @@ pub use items::Items;
 pub use memory::Memory;
 pub use pool::{Pool, PoolBuilder};
 pub use slots::Slots;
+pub use steps::Steps;
 pub use term::{Seen, Term, Unknown};
 pub use text::Text;

@@ -24,12 +24,14 @@ use Rattle.fact_table.specs.declared.fact.Fact.{Fact}
 use Rattle.fact_table.specs.Rows.{SeenRow, row_at, row_of, rows_of}
 use Rattle.body_match.specs.declared.found.Match.{Match}
 use Rattle.body_match.specs.Matches.{seen_value, IsImage, IsImageAt, IsMatch}
-use Rattle.body_match.specs.Snapshots.{seen_term, AgreesWith, AreMatchesAtInstants}
+use Rattle.fact_table.specs.Snapshots.{seen_term}
+use Rattle.body_match.specs.Snapshots.{AgreesWith, AreMatchesAtInstants}
 use Rattle.body_match.proofs.ListLemmas.{at_within, within_from_at, at_from_contains, at_map, at_from_map, maps_at, zip_at}
 use Rattle.body_match.proofs.PlaceLemmas.{atom_from_occurs}
 use Rattle.body_match.proofs.SearchLemmas.{some_and, and_some, same_some}
 use Rattle.body_match.proofs.SnapshotLemmas.{facts_from_match}
-use Rattle.normaliser.specs.Normalised.{snapshot_of, IsEndOf}
+use Rattle.fact_table.specs.Snapshots.{snapshot_of}
+use Rattle.normaliser.specs.Normalised.{IsEndOf}
 use Rattle.tgd_chase.specs.Fired.{FiresOn, GivesConstants}
 use Rattle.tgd_chase.specs.Candidates.{IsConstant, IsMadeFrom, IsCandidateOf, IsFoundAt, AreCandidatesOf, AddsCandidates, IsCandidate, AreCandidates}
 use Rattle.tgd_chase.specs.declared.candidates.Candidate.{Candidate}

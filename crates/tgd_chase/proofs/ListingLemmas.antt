@@ -17,7 +17,7 @@ use Rattle.rule_core.specs.Mapping.{RuleSet}
 use Rattle.rule_core.specs.Firing.{frontier_of, Fires}
 use Rattle.fact_table.specs.declared.fact.Fact.{Fact}
 use Rattle.body_match.proofs.SearchLemmas.{some_and, and_some, same_some}
-use Rattle.normaliser.specs.Normalised.{snapshot_of}
+use Rattle.fact_table.specs.Snapshots.{snapshot_of}
 use Rattle.failure_trace.specs.declared.firing.Firing.{Firing}
 use Rattle.failure_trace.specs.declared.firing.Support.{Support}
 use Rattle.tgd_chase.specs.Fired.{FiresOn, Supports, IsSupported, AreFirings}

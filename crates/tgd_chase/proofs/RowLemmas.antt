@@ -21,7 +21,7 @@ use Rattle.rule_core.proofs.ListLemmas.{Contains-head, Contains-cons, Contains-n
 use Rattle.rule_core.proofs.SnapshotLemmas.{snapshot_covers, covered_in_snapshot}
 use Rattle.body_match.proofs.SearchLemmas.{and_some}
 use Rattle.fact_table.specs.declared.fact.Fact.{Fact}
-use Rattle.normaliser.specs.Normalised.{snapshot_of}
+use Rattle.fact_table.specs.Snapshots.{snapshot_of}
 use Rattle.null_store.specs.Store.{Store, facts_in}
 use Rattle.null_store.specs.Changes.{IsFresh}
 use Rattle.failure_trace.specs.declared.firing.Firing.{Firing}

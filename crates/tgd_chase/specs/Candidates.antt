@@ -9,7 +9,7 @@ use Rattle.rule_core.specs.Mapping.{RuleSet}
 use Rattle.rule_core.specs.Firing.{Fires}
 use Rattle.fact_table.specs.declared.fact.Fact.{Fact}
 use Rattle.body_match.specs.declared.found.Match.{Match}
-use Rattle.normaliser.specs.Normalised.{snapshot_of}
+use Rattle.fact_table.specs.Snapshots.{snapshot_of}
 use Rattle.tgd_chase.specs.Fired.{Supports, FiresOn}
 use Rattle.tgd_chase.specs.declared.candidates.Candidate.{Candidate}
 

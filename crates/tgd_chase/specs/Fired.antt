@@ -18,7 +18,8 @@ use Rattle.fact_table.specs.declared.fact.Fact.{Fact}
 use Rattle.fact_table.specs.Rows.{rows_of}
 use Rattle.body_match.specs.declared.found.Match.{Match}
 use Rattle.body_match.specs.Matches.{IsMatch}
-use Rattle.normaliser.specs.Normalised.{snapshot_of, IsEndOf}
+use Rattle.fact_table.specs.Snapshots.{snapshot_of}
+use Rattle.normaliser.specs.Normalised.{IsEndOf}
 use Rattle.failure_trace.specs.declared.firing.Firing.{Firing}
 use Rattle.failure_trace.specs.declared.firing.Support.{Support}
 

@@ -7,12 +7,12 @@ ghost use Rattle.rule_core.specs.Validity.{occurrences};
 ghost use Rattle.tgd_chase.specs.Candidates.{AreCandidates, AddsCandidates, IsMadeFrom, IsConstant};
 
 use body_match::{Match, matches};
-use fact_table::{FactTable, Steps};
+use fact_table::FactTable;
 use failure_trace::Support;
 use rule_core::{Rules, Tgd, frontier};
 use std::alloc::Global;
 use std::sync::ledger::Ledger;
-use term_core::{ConstId, Items, Memory, Seen};
+use term_core::{ConstId, Items, Memory, Seen, Steps};
 
 /// A match of a rule's body, with the values of the rule's frontier. Candidates are ordered by
 /// rule, then by frontier, then by span.

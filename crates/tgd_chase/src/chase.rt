@@ -11,13 +11,13 @@ ghost use Rattle.tgd_chase.specs.Fired.{AreFirings, HoldFiringFacts};
 ghost use Rattle.tgd_chase.specs.Adding.{name_of, FitsRules, AddsRows};
 
 use crate::listing::list_firings;
-use fact_table::{FactTable, Steps};
+use fact_table::FactTable;
 use failure_trace::Firing;
 use null_store::NullStore;
 use rule_core::{Atom, Rules, Tgd};
 use std::alloc::Global;
 use std::sync::ledger::Ledger;
-use term_core::{Items, Memory};
+use term_core::{Items, Memory, Steps};
 
 /// A target before its equalities, and the firings that made it.
 #[derive(Drop)]

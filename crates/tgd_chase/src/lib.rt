@@ -6,7 +6,5 @@ mod chase;
 pub mod laws;
 mod listing;
 mod merging;
-#[cfg(test)]
-mod tests;
 
 pub use chase::{Fired, fire};

@@ -6,12 +6,12 @@ ghost use Rattle.tgd_chase.specs.Fired.{AreFirings};
 
 use crate::candidates::find_candidates;
 use crate::merging::merge;
-use fact_table::{FactTable, Steps};
+use fact_table::FactTable;
 use failure_trace::Firing;
 use rule_core::Rules;
 use std::alloc::Global;
 use std::sync::ledger::Ledger;
-use term_core::{Items, Memory};
+use term_core::{Items, Memory, Steps};
 
 /// For each tgd and each list of frontier values, the time in which some match of the body has these values, coalesced: each span
 /// is one firing.

@@ -10,6 +10,10 @@ pub record Ends : Type 0 where
   pub lo : Option ℤ
   pub hi : Option ℤ
 
+-- these two ends
+abbrev pub ends : Option ℤ → Option ℤ → Ends
+ends lo hi = record { lo = lo; hi = hi }
+
 -- the instant is not before the start
 abbrev pub IsFrom : Option ℤ → ℤ → Type 0
 IsFrom None t = ⊤
@@ -80,10 +84,12 @@ IsJoin a b s = (t : ℤ) → Has s t ↔ (Has a t ⊎ Has b t)
 abbrev pub IsInside : Ends → ℤ → Type 0
 IsInside s m = Has s m × Has s (m -ℤ pos 1)
 
--- the parts of a span before an instant and from it on
+-- the parts of a span before an instant and from it on: which instants they have, and which ends
 pub record AreParts (s before after : Ends) (m : ℤ) : Type 0 where
   pub first : (t : ℤ) → Has before t ↔ (Has s t × (t <ℤ m))
   pub second : (t : ℤ) → Has after t ↔ (Has s t × (m ≤ℤ t))
+  pub first_ends : before ≡ ends s.lo (Some m)
+  pub second_ends : after ≡ ends (Some m) s.hi
 
 -- an instant between two ends: the start, else the last one before the stop, else 0
 abbrev pub instant_between : Option ℤ → Option ℤ → ℤ

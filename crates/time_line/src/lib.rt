@@ -4,8 +4,6 @@
 
 pub mod laws;
 mod span;
-#[cfg(test)]
-mod tests;
 mod text;
 
 pub use span::Span;

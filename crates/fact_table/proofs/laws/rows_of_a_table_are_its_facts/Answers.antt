@@ -4,8 +4,8 @@ use Rattle.term_core.specs.declared.term.Seen.TheVariants.{Const}
 use Rattle.rule_core.specs.Terms.{constant}
 use Rattle.fact_table.specs.declared.fact.Fact.{Fact}
 use Rattle.fact_table.specs.Rows.{rows_of}
-use Rattle.body_match.specs.Snapshots.{seen_term, facts_of, with_terms}
-use Rattle.body_match.proofs.laws.rows_of_a_table_are_its_facts.Goals as goal
+use Rattle.fact_table.specs.Snapshots.{seen_term, facts_of, with_terms}
+use Rattle.fact_table.proofs.laws.rows_of_a_table_are_its_facts.Goals as goal
 
 same_terms : (row : List ConstId) → map seen_term (map Const row) ≡ map constant row
 same_terms [] = refl
