@@ -37,7 +37,7 @@ pub fn read_declaration(
     ensures within { IfOk result (λ line. line.2 ≤ length bytes.now) }
     ensures fault { IfFault result (FailsDeclaration bytes.now rules.now from) }
 {
-    rules.are_valid();
+    rules.is_kept();
     what_is_declared_fits();
     let (place, after) = read_side(bytes, from)?;
     let name = read_relation_name(alloc, bytes, after, rules)?;
@@ -108,7 +108,7 @@ fn is_new(rules: &Rules, name: &Text) -> bool
 fn has_place(rules: &Rules) -> bool
     ensures { IsTrue result ↔ HasPlace rules.now }
 {
-    rules.are_valid();
+    rules.is_kept();
     rules.sources().len() + rules.targets().len() < MOST_RELATIONS
 }
 

@@ -103,7 +103,7 @@ fn fetch_tables<S: Shelf>(
         → StopsEarly (device (S.holds shelf.old) (S.faults shelf.old))
         (device (S.holds shelf.new) (S.faults shelf.new)) (command_of command.now) ending) }
 {
-    mapping.rules.are_valid();
+    mapping.rules.is_kept();
     let mut left = TABLES_LIMIT;
     let mut tables = Items::new(alloc);
     for relation in mapping.rules.sources().as_slice() {

@@ -49,7 +49,7 @@ fn table_files(
     ensures { IfOk result (λ files. AreTableFiles target.now loaded.now.rules.targets files
         (map (stored_table loaded.now.pool solved.now.nulls) solved.now.tables)) }
 {
-    loaded.rules.are_valid();
+    loaded.rules.is_kept();
     let nulls = solved.nulls.as_slice();
     let relations = loaded.rules.targets().as_slice();
     let tables = solved.tables.as_slice();

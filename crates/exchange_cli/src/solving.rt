@@ -38,9 +38,9 @@ fn load_inputs(alloc: Global, inputs: Inputs) -> Result<Loaded, Memory>
     ensures { IfOk result (IsLoadedFrom (read_of inputs)) }
 {
     let Inputs { mapping, tables } = inputs;
-    mapping.rules.are_valid();
+    mapping.rules.is_kept();
     let loaded = load(alloc, &mapping, &tables)?;
-    loaded.rules.are_valid();
+    loaded.rules.is_kept();
     let _ = loaded.pool.len();
     Ok(loaded)
 }

@@ -29,7 +29,7 @@ pub fn load(
     ensures rules { IfOk result (λ loaded. IsRebased mapping.now.pool loaded.pool mapping.now.rules loaded.rules) }
     ensures facts { IfOk result (λ loaded. AreFactsOf tables.now loaded.pool loaded.table) }
 {
-    mapping.rules.are_valid();
+    mapping.rules.is_kept();
     let tables = tables.as_slice();
     let pool = pool_of(alloc, &mapping.pool, tables)?;
     let rules = mapping.rules.rebase(&mapping.pool, &pool)?;

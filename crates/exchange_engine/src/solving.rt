@@ -30,7 +30,7 @@ pub fn exchange<L: Ledger>(
     ensures counts { IfOk result (λ o. IfSolved o (λ s. AreCountsOf loaded.now s.counts)) }
 {
     loaded.has_each_constant();
-    loaded.rules.are_valid();
+    loaded.rules.is_kept();
     rows_of_a_table_are_its_facts();
     solutions_are_what_firing_facts_map_into();
     let pieces = normalise(alloc, &loaded.table, &loaded.rules)?;

@@ -32,7 +32,7 @@ fn print_lines(alloc: Global, rules: &Rules, pool: &Pool) -> Result<Text, Memory
     ensures text { IfOk result (λ text. text ≡ mapping_text (meaning_of rules.now pool.now)) }
     ensures reads { IfOk result (λ text. IsMapping text (meaning_of rules.now pool.now)) }
 {
-    rules.are_valid();
+    rules.is_kept();
     let _ = pool.len();
     let sources = print_relations(alloc, Place::Source, rules.sources().as_slice())?;
     let targets = print_relations(alloc, Place::Target, rules.targets().as_slice())?;

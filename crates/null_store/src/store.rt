@@ -100,7 +100,7 @@ impl NullStore {
             (λ n. AddsFiring rules.now n span self.old self.new) }
         ensures steps { steps.old ≤ steps.new }
     {
-        rules.are_valid();
+        rules.is_kept();
         let named = self.names.get(name);
         let tgd = &rules.tgds().as_slice()[named.rule as usize];
         let frontier = named.frontier.as_slice();

@@ -86,7 +86,7 @@ impl Rules {
     }
 
     /// They are valid: the fact that the type keeps.
-    pub fn are_valid(&self)
+    pub fn is_kept(&self)
         ensures { IsValid self.now }
     {
         let _ = &self.sources;

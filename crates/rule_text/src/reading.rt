@@ -34,7 +34,7 @@ pub fn read_rule(
     ensures within { IfOk result (λ line. line.1 ≤ length bytes.now) }
     ensures fault { IfFault result (FailsRule bytes.now rules.now pool.now from) }
 {
-    rules.are_valid();
+    rules.is_kept();
     what_is_read_fits();
     read_line(alloc, bytes, from, rules, pool)
 }

@@ -23,7 +23,7 @@ pub(crate) fn find_relation(rules: &Rules, side: Place, name: &Text) -> Result<F
     ensures found { IfOk result (λ found. IsFound rules.now side name.now found.number found.width) }
     ensures missing { IfErr result (IsMissing rules.now side name.now) }
 {
-    rules.are_valid();
+    rules.is_kept();
     let Some((place, number)) = rules.find(name.as_str()) else {
         return Err(Code::U1);
     };

@@ -35,7 +35,7 @@ pub fn find_candidates<L: Ledger>(
 ) -> Result<Vec<Candidate>, Memory>
     ensures { IfOk result (λ list. AreCandidates rules.now table.now list.items) }
 {
-    rules.are_valid();
+    rules.is_kept();
     let mut list = Vec::new(alloc);
     for (rule, tgd) in rules.tgds().as_slice().iter().enumerate() {
         add_candidates(alloc, rule as u32, tgd, table, &mut list, steps)?;

@@ -68,7 +68,7 @@ fn add_rows<L: Ledger>(
     requires fresh { IsFresh store.old (name_of firing.now) firing.now.span }
     ensures { OnOk result (AddsRows rules.now firing.now store.old store.new) }
 {
-    rules.are_valid();
+    rules.is_kept();
     reserve_head(&rules.tgds().as_slice()[firing.rule as usize], store)?;
     let name = store.name(firing.rule, &firing.frontier)?;
     store.add_firing(rules, name, firing.span, steps);

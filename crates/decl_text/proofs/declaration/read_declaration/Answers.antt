@@ -86,5 +86,5 @@ returns-clause-declares c =
 pub returns-clause-fits : goal.returns-clause-fits
 returns-clause-fits c =
     c.what_is_declared_fits.ensures c.args.bytes.now c.args.rules.now c.args.from c.in_ok-place.place
-    (record { name = c.in_ok-name.name.text; columns = c.in_ok-columns.columns }) c.in_ok-end.end c.are_valid.ensures
+    (record { name = c.in_ok-name.name.text; columns = c.in_ok-columns.columns }) c.in_ok-end.end c.is_kept.ensures
     (returns-clause-declares c)

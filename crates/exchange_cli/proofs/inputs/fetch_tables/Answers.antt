@@ -67,7 +67,7 @@ fetch_table-requires g c =
     let within = rw (c.as_slice-relation-items.ensures, c.sources.ensures) at c.loop-relation-test.true in
     let is : relation ≡ get_or c.mapping.inside.rules.sources c.loop-relation.relation-index relation =
     rw (c.as_slice-relation-items.ensures, c.sources.ensures) at c.relation-item.is in
-    subst IsRelation (sym is) (c.are_valid.ensures.relations.source_relations c.loop-relation.relation-index relation within)
+    subst IsRelation (sym is) (c.is_kept.ensures.relations.source_relations c.loop-relation.relation-index relation within)
 
 pub returns-in_err-facts-clause-keeps : goal.returns-in_err-facts-clause-keeps
 returns-in_err-facts-clause-keeps g c =
@@ -113,7 +113,7 @@ pub returns-clause-few : goal.returns-clause-few
 returns-clause-few g c =
     let sources = c.args.mapping.now.rules.sources in
     let are = relations_are g (goal.at.returns-clause-few g c).After-as_slice-relation-items in
-    let valid = rw (ap (λ (m : Meaning). m.rules) c.mapping.view_is) at c.are_valid.ensures in
+    let valid = rw (ap (λ (m : Meaning). m.rules) c.mapping.view_is) at c.is_kept.ensures in
     all_have_few_cells sources c.loop-relation.tables
     (all_are_read sources c.loop-relation.tables c.loop-relation.relation-index (rw are at c.loop-relation-test.false) c.loop-relation.invariant.read)
     (omega (arith, valid.relations.most))

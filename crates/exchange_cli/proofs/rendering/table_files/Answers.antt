@@ -23,7 +23,7 @@ table_file-requires-clause-valid c =
     (rw c.as_slice-tables.ensures at c.loop-place-test.true) in
     let is : relation ≡ get_or targets c.loop-place.place relation =
     rw (c.as_slice-relations.ensures, c.targets.ensures) at c.index-relations-place.is in
-    subst IsRelation (sym is) (c.are_valid.ensures.relations.target_relations c.loop-place.place relation within)
+    subst IsRelation (sym is) (c.is_kept.ensures.relations.target_relations c.loop-place.place relation within)
 
 pub table_file-requires-clause-widths : goal.table_file-requires-clause-widths
 table_file-requires-clause-widths c =

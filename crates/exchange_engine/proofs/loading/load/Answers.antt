@@ -14,7 +14,7 @@ numbered_facts-requires-clause-few c =
       as_many c.args.mapping.now.rules.sources c.args.tables.now c.requires.tables,
       ap (λ (m : Meaning). length m.rules.sources) c.mapping.view_is,
       ap length c.as_slice-tables.ensures,
-      c.are_valid.ensures.relations.most,
+      c.is_kept.ensures.relations.most,
     )
 
 pub numbered_facts-requires-clause-there : goal.numbered_facts-requires-clause-there

@@ -18,7 +18,7 @@ tables_of-requires g c =
     let rows : List TargetFact = facts_in c.in_ok-fired.fired.store in
     let size : c.len-relations.result ≡ length rules.targets = c.len-relations.ensures ∙ ap length c.targets.ensures in
     subst (λ (n : ℕ). All (λ (fact : TargetFact). fact.row.relation < n) rows) (sym size)
-    (rows_below rules c.are_valid.ensures c.in_ok-fired.fired.firings rows c.in_ok-fired.ensures.rows)
+    (rows_below rules c.is_kept.ensures c.in_ok-fired.fired.firings rows c.in_ok-fired.ensures.rows)
 
 -- what has come of the mapping and the source
 chased : (g : _) (c : In_ok-tables g)
@@ -28,7 +28,7 @@ chased g c =
     let size : c.len-relations.result ≡ length rules.targets = c.len-relations.ensures ∙ ap length c.targets.ensures in
     let rows : List TargetFact = facts_in c.in_ok-fired.fired.store in
     subst (λ (l : LoadedOf). IsChased l c.in_ok-pieces.pieces rows c.in_ok-tables.tables) c.loaded.view_is (record {
-      valid = c.are_valid.ensures;
+      valid = c.is_kept.ensures;
       same = c.in_ok-pieces.ensures.same;
       hold = c.in_ok-fired.ensures.facts;
       size = c.in_ok-tables.ensures.size ∙ size;

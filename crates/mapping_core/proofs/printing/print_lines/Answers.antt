@@ -35,5 +35,5 @@ returns-clause-text c =
 
 pub returns-clause-reads : goal.returns-clause-reads
 returns-clause-reads c =
-    read_back (meaning_of c.args.rules.now c.args.pool.now) c.are_valid.ensures c.len.ensures.pool c.requires c.push_str-4.new.self _ _ _ _ _
+    read_back (meaning_of c.args.rules.now c.args.pool.now) c.is_kept.ensures c.len.ensures.pool c.requires c.push_str-4.new.self _ _ _ _ _
     (returns-clause-text c) refl refl refl refl refl

@@ -10,5 +10,5 @@ returns-clause-fits c =
     IfOk-weaker c.read_line.result
     (λ line. IsRule c.args.bytes.now c.args.rules.now c.args.pool.now c.args.from line.0 line.1)
     (λ line. IsValid (with_rule c.args.rules.now line.0))
-    (λ line states. c.what_is_read_fits.ensures c.args.bytes.now c.args.rules.now c.args.pool.now c.args.from line.0 line.1 c.are_valid.ensures states)
+    (λ line states. c.what_is_read_fits.ensures c.args.bytes.now c.args.rules.now c.args.pool.now c.args.from line.0 line.1 c.is_kept.ensures states)
     c.read_line.ensures.states

@@ -20,7 +20,7 @@ returns-then-ne-clause-missing c =
     let other : c.in-Some.place ≢ c.args.side = search rules in
     inr (
       named_is_declared c.args.rules.now c.args.name.now c.in-Some.place c.in-Some.number named,
-      not_on_other_side c.args.rules.now c.args.name.now c.in-Some.place c.args.side c.in-Some.number c.are_valid.ensures.relations named other,
+      not_on_other_side c.args.rules.now c.args.name.now c.in-Some.place c.args.side c.in-Some.number c.is_kept.ensures.relations named other,
       refl,
     )
 
@@ -29,5 +29,5 @@ returns-clause-found c =
     let same : c.in-Some.place ≡ c.args.side = search rules in
     let named = subst (λ (n : List ℕ). IsNamedAt c.args.rules.now n c.args.side c.in-Some.number) c.as_str.ensures
     (subst (λ (side : Place). IsNamedAt c.args.rules.now c.as_str.result.now side c.in-Some.number) same c.in-Some.ensures.found) in
-    found_is_first c.args.rules.now c.args.name.now c.args.side c.in-Some.number c.width_of-width.result c.are_valid.ensures.relations named
+    found_is_first c.args.rules.now c.args.name.now c.args.side c.in-Some.number c.width_of-width.result c.is_kept.ensures.relations named
     c.width_of-width.ensures

@@ -7,7 +7,7 @@ use Rattle.tgd_chase.proofs.candidates.find_candidates.Goals as goal
 
 pub add_candidates-requires-clause-vars : goal.add_candidates-requires-clause-vars
 add_candidates-requires-clause-vars g c =
-    (read_tgd c.args.rules.now c.are_valid.ensures c.as_slice-tgd-items.result.now c.loop-rule.rule c.tgd-item.result
+    (read_tgd c.args.rules.now c.is_kept.ensures c.as_slice-tgd-items.result.now c.loop-rule.rule c.tgd-item.result
     (c.as_slice-tgd-items.ensures ∙ c.tgds.ensures) c.loop-rule-test.true c.tgd-item.is).body_vars.same
 
 pub loop-rule-preserved : goal.loop-rule-preserved

@@ -10,14 +10,14 @@ reserve_head-requires-clause-cells g c =
     let tgd : Tgd = c.index-as_slice-firing.result in
     let there = tgd_there c.args.rules.now c.args.firing.now c.as_slice.result.now tgd c.requires.fits
     (c.as_slice.ensures ∙ c.tgds.ensures) c.index-as_slice-firing.is in
-    few_cells c.args.rules.now c.are_valid.ensures tgd (contains_from_at c.args.rules.now.tgds c.args.firing.now.rule tgd there)
+    few_cells c.args.rules.now c.is_kept.ensures tgd (contains_from_at c.args.rules.now.tgds c.args.firing.now.rule tgd there)
 
 pub reserve_head-requires-clause-within : goal.reserve_head-requires-clause-within
 reserve_head-requires-clause-within g c =
     let tgd : Tgd = c.index-as_slice-firing.result in
     let there = tgd_there c.args.rules.now c.args.firing.now c.as_slice.result.now tgd c.requires.fits
     (c.as_slice.ensures ∙ c.tgds.ensures) c.index-as_slice-firing.is in
-    within c.args.rules.now c.are_valid.ensures tgd (contains_from_at c.args.rules.now.tgds c.args.firing.now.rule tgd there)
+    within c.args.rules.now c.is_kept.ensures tgd (contains_from_at c.args.rules.now.tgds c.args.firing.now.rule tgd there)
 
 pub add_firing-requires : goal.add_firing-requires
 add_firing-requires g c =

@@ -19,7 +19,7 @@ fire-requires g c =
     let asked = asks rules store c.args.self.now c.args.name c.args.span n c.self.view_is c.get-named.ensures c.requires in
     let at = rule_at rules store n c.as_slice.result.now tgd (c.as_slice.ensures ∙ c.tgds.ensures) c.index-as_slice-named.is asked.0 in
     subst (λ (frontier : List ConstId). IsReady tgd frontier inside.rows room) (sym c.as_slice-frontier.ensures.value)
-    (ready rules tgd n inside.rows inside.pieces.items room inside.names c.are_valid.ensures at asked.0)
+    (ready rules tgd n inside.rows inside.pieces.items room inside.names c.is_kept.ensures at asked.0)
 
 pub invariant_of-self : goal.invariant_of-self
 invariant_of-self g c =
@@ -33,7 +33,7 @@ invariant_of-self g c =
     let tgd = c.index-as_slice-named.result in
     let asked = asks rules store c.args.self.now c.args.name c.args.span n c.self.view_is c.get-named.ensures c.requires in
     let at = rule_at rules store n c.as_slice.result.now tgd (c.as_slice.ensures ∙ c.tgds.ensures) c.index-as_slice-named.is asked.0 in
-    let is = ready rules tgd n inside.rows old room inside.names c.are_valid.ensures at asked.0 in
+    let is = ready rules tgd n inside.rows old room inside.names c.is_kept.ensures at asked.0 in
     let fired = subst (λ (frontier : List ConstId).
     IsFired tgd frontier c.args.name c.args.span inside.rows.rows c.fire.new.rows.rows old new.items)
     c.as_slice-frontier.ensures.value c.fire.ensures.fired in
@@ -54,7 +54,7 @@ returns-clause-adds g c =
     let tgd = c.index-as_slice-named.result in
     let asked = asks rules store c.args.self.now c.args.name c.args.span n c.self.view_is c.get-named.ensures c.requires in
     let at = rule_at rules store n c.as_slice.result.now tgd (c.as_slice.ensures ∙ c.tgds.ensures) c.index-as_slice-named.is asked.0 in
-    let is = ready rules tgd n inside.rows old room inside.names c.are_valid.ensures at asked.0 in
+    let is = ready rules tgd n inside.rows old room inside.names c.is_kept.ensures at asked.0 in
     let fired = subst (λ (frontier : List ConstId).
     IsFired tgd frontier c.args.name c.args.span inside.rows.rows c.fire.new.rows.rows old new.items)
     c.as_slice-frontier.ensures.value c.fire.ensures.fired in
