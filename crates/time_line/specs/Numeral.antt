@@ -1,4 +1,5 @@
--- Numbers and ends as texts: `0`, or an optional `-`, a digit 1 to 9 and any digits; a word for an absent end.
+-- Numbers, ends and marks as texts: `0`, or an optional `-`, a digit 1 to 9 and any digits; a word for an absent end;
+-- `?` and a number from 1 for a mark.
 use Rattle.std.specs.Prelude.{◌≡◌, ◌⊎◌, ℕ, ◌≤◌, ◌+◌, ◌*◌, ◌-◌, ◌==◌, if◌then◌else◌, ℤ, pos, neg_ℤ}
 use Rattle.std.specs.Prelude.{List, [], ◌∷◌, codes, fold, Option, Some, None}
 use Rattle.std.specs.List.{AllByRecursion}
@@ -27,6 +28,14 @@ value_of digits = fold (λ n d. 10 * n + (d - 48)) 0 digits
 abbrev pub number_of : List ℕ → ℤ
 number_of [] = pos 0
 number_of (c ∷ cs) = if c == 45 then neg_ℤ (pos (value_of cs)) else pos (value_of (c ∷ cs))
+
+-- the byte `?`, with which a mark begins
+abbrev pub mark : ℕ
+mark = 63
+
+-- the text is `?n`, the mark of the number n from 1
+abbrev pub IsMark : List ℕ → ℕ → Type 0
+IsMark text n = (digits : List ℕ) × (text ≡ mark ∷ digits) × IsPositive digits × (value_of digits ≡ n)
 
 -- the word for an absent end
 abbrev pub word_of : Side → List ℕ

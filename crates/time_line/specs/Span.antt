@@ -1,5 +1,5 @@
 -- A span of time: its two ends, and the instants that it has. An instant is any whole number.
-use Rattle.std.specs.Prelude.{◌≡◌, ◌⊎◌, ◌↔◌, ℤ, pos, negsuc, ◌≤ℤ◌, ◌<ℤ◌, ◌-ℤ◌, Option, Some, None, ⊤}
+use Rattle.std.specs.Prelude.{◌≡◌, ◌⊎◌, ◌↔◌, ℤ, pos, negsuc, ◌≤ℤ◌, ◌<ℤ◌, ◌-ℤ◌, Bool, true, ◌&&◌, int_le, int_lt, Option, Some, None, ⊤}
 use Rattle.std.specs.declared.cmp.Ordering.{Ordering}
 use Rattle.std.specs.declared.cmp.Ordering.TheVariants.{Less, Equal, Greater}
 use Rattle.std.specs.Ordering.{int_cmp, ordering_then}
@@ -27,6 +27,18 @@ IsBefore (Some hi) t = t <ℤ hi
 -- the span has the instant
 abbrev pub Has : Ends → ℤ → Type 0
 Has s t = IsFrom s.lo t × IsBefore s.hi t
+
+-- the tests of `IsFrom`, `IsBefore` and `Has`
+abbrev pub is_from : Option ℤ → ℤ → Bool
+is_from None t = true
+is_from (Some lo) t = int_le lo t
+
+abbrev pub is_before : Option ℤ → ℤ → Bool
+is_before None t = true
+is_before (Some hi) t = int_lt t hi
+
+abbrev pub has : Ends → ℤ → Bool
+has s t = is_from s.lo t && is_before s.hi t
 
 -- some instant is in the span
 abbrev pub HasInstant : Ends → Type 0

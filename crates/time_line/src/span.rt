@@ -1,5 +1,6 @@
 //! Spans: where one starts and stops, and what two of them have in common.
 ghost use Rattle.std.specs.Prelude.{◌≡◌, ◌⊎◌, ◌↔◌, ℤ, pos, ◌-ℤ◌, Some, None, IsTrue, IsSome, IfSome, IfNone};
+ghost use Rattle.std.specs.Bool.{OnFalse};
 ghost use Rattle.std.specs.Ordering.{as_partial_cmp, ord_max, ord_min};
 ghost use Rattle.time_line.specs.Span.{Ends, Has, IsWithinLimit, IsSpan, AreOrdered, AreApart, Meet, IsMeet, Touch, StopsAt, IsJoin, IsInside, AreParts, start_cmp, stop_cmp, instant_between};
 
@@ -94,6 +95,13 @@ impl Span {
         self.hi
     }
 
+    /// What each span is: it has an instant, and its ends are within the limit.
+    pub fn is_kept(&self)
+        ensures { IsSpan self.now }
+    {
+        let _ = &self.lo;
+    }
+
     /// Whether the span has the instant.
     pub fn has(&self, t: i64) -> bool
         ensures { IsTrue result ↔ Has self.now t }
@@ -129,6 +137,17 @@ impl Span {
         ensures { IsTrue result ↔ Touch self.now other.now }
     {
         stops_at(self.hi, other.lo) || stops_at(other.hi, self.lo)
+    }
+
+    /// Whether the spans have an instant in common, or one stops where the other starts.
+    pub fn adjoins(&self, other: &Span) -> bool
+        ensures adjoins { IsTrue result ↔ (Meet self.now other.now ⊎ Touch self.now other.now) }
+        ensures apart { OnFalse result (AreApart self.now other.now × ¬ Touch self.now other.now) }
+    {
+        match self.meet(other) {
+            Some(_) => true,
+            None => self.touches(other),
+        }
     }
 
     /// The span of the instants of both, which have to meet or to touch.

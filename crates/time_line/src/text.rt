@@ -1,15 +1,18 @@
-//! Ends as texts: a number, or a word where the end is absent.
-ghost use Rattle.std.specs.Prelude.{◌≡◌, ℕ, pos, ◌+◌, ◌≤◌, ◌<◌, ◌↔◌, ◌++◌, ◌∷◌, length, List, Some, Ok, Err, IsTrue, IfOk};
+//! Ends, instants and marks as texts: an end is a number, or a word where it is absent.
+ghost use Rattle.std.specs.Prelude.{◌≡◌, ℕ, ◌+◌, ◌*◌, ◌-◌, ◌^◌, ◌≤◌, ◌<◌, ◌↔◌, ◌++◌, ◌∷◌, unsigned_abs, length, List, Some, Ok, Err, IsTrue, IfOk, IfSome, IfNone};
 ghost use Rattle.std.specs.List.{AllByRecursion};
 ghost use Rattle.std.specs.Option.{SomeIff};
 ghost use Rattle.std.specs.Fmt.{decimal};
 ghost use Rattle.time_line.specs.Span.{IsWithinLimit, IsWithinInstants};
-ghost use Rattle.time_line.specs.Numeral.{IsDigit, IsPositive, IsNumber, value_of, number_of, word_of, IsEnd, end_text};
+ghost use Rattle.time_line.specs.Numeral.{IsDigit, IsPositive, IsNumber, IsMark, value_of, number_of, word_of, IsEnd, end_text};
 
 use std::marker::Model;
 
 /// The greatest distance of an end from 0.
 const LIMIT: u64 = 1_000_000_000_000_000;
+
+/// The greatest distance of an instant from 0.
+const INSTANT_LIMIT: u64 = 2_000_000_000_000_000;
 
 /// Which end of a span a text is.
 #[derive(Clone, Copy, Debug, PartialEq, Eq)]
@@ -115,37 +118,60 @@ pub fn read_end(bytes: &[u8], side: Side) -> Result<Option<i64>, EndFault>
     if bytes == side.word() {
         return Ok(None);
     }
-    let number = read_number(bytes)?;
+    let number = read_number(bytes, LIMIT)?;
     Ok(Some(number))
 }
 
-// The number that the text is.
-fn read_number(bytes: &[u8]) -> Result<i64, EndFault>
-    ensures value { IfOk result (λ n. IsNumber bytes.now × (number_of bytes.now ≡ n)) }
-    ensures within { IfOk result (λ n. IsWithinLimit (Some n)) }
+/// The instant that the text is: a number, and no word.
+pub fn read_instant(bytes: &[u8]) -> Result<i64, EndFault>
+    ensures value { IfOk result (λ t. IsNumber bytes.now × (number_of bytes.now ≡ t)) }
+    ensures within { IfOk result (λ t. IsWithinInstants (Some t)) }
     ensures form { (result ≡ Err EndFault.E1) ↔ ¬ IsNumber bytes.now }
     ensures limit { (result ≡ Err EndFault.E2)
-        ↔ (IsNumber bytes.now × ¬ IsWithinLimit (Some (number_of bytes.now))) }
+        ↔ (IsNumber bytes.now × ¬ IsWithinInstants (Some (number_of bytes.now))) }
+{
+    read_number(bytes, INSTANT_LIMIT)
+}
+
+// The number that the text is, where it is no farther from 0 than the limit.
+fn read_number(bytes: &[u8], limit: u64) -> Result<i64, EndFault>
+    requires { limit < 2 ^ 63 }
+    ensures value { IfOk result (λ n. IsNumber bytes.now × (number_of bytes.now ≡ n)) }
+    ensures within { IfOk result (λ n. unsigned_abs n ≤ limit) }
+    ensures form { (result ≡ Err EndFault.E1) ↔ ¬ IsNumber bytes.now }
+    ensures limit { (result ≡ Err EndFault.E2)
+        ↔ (IsNumber bytes.now × (limit < unsigned_abs (number_of bytes.now))) }
 {
     match bytes {
         b"0" => Ok(0),
-        [b'-', digits @ ..] => Ok(-read_positive(digits)?),
-        digits => read_positive(digits),
+        [b'-', digits @ ..] => Ok(-(read_positive(digits, limit)? as i64)),
+        digits => Ok(read_positive(digits, limit)? as i64),
     }
 }
 
-// The number that digits are, where the first is not 0.
-fn read_positive(digits: &[u8]) -> Result<i64, EndFault>
-    ensures value { IfOk result (λ n. IsPositive digits.now × (n ≡ pos (value_of digits.now))) }
+/// The number of a mark such as `?7`, where the text is one whose number fits.
+pub fn read_mark(bytes: &[u8]) -> Option<u64>
+    ensures value { IfSome result (λ n. IsMark bytes.now n) }
+    ensures none { IfNone result ((n : ℕ) → n < 2 ^ 64 → ¬ IsMark bytes.now n) }
+{
+    match bytes {
+        [b'?', digits @ ..] => read_positive(digits, u64::MAX).ok(),
+        _ => None,
+    }
+}
+
+/// The number that digits are, where the first is not 0. The limit may be any number of 64 bits.
+pub fn read_positive(digits: &[u8], limit: u64) -> Result<u64, EndFault>
+    ensures value { IfOk result (λ n. IsPositive digits.now × (value_of digits.now ≡ n)) }
+    ensures within { IfOk result (λ n. n ≤ limit) }
     ensures form { (result ≡ Err EndFault.E1) ↔ ¬ IsPositive digits.now }
     ensures limit { (result ≡ Err EndFault.E2)
-        ↔ (IsPositive digits.now × (LIMIT < value_of digits.now)) }
+        ↔ (IsPositive digits.now × (limit < value_of digits.now)) }
 {
     if !is_positive(digits) {
         return Err(EndFault::E1);
     }
-    let magnitude = magnitude_of(digits).ok_or(EndFault::E2)?;
-    Ok(magnitude as i64)
+    magnitude_of(digits, limit).ok_or(EndFault::E2)
 }
 
 // Whether the text is digits, and the first is not 0.
@@ -165,18 +191,28 @@ fn are_digits(bytes: &[u8]) -> bool
 }
 
 // What the digits stand for, where that is within the limit.
-fn magnitude_of(digits: &[u8]) -> Option<u64>
+fn magnitude_of(digits: &[u8], limit: u64) -> Option<u64>
     requires { AllByRecursion IsDigit digits.now }
-    ensures { SomeIff result (value_of digits.now ≤ LIMIT) (value_of digits.now) }
+    ensures { SomeIff result (value_of digits.now ≤ limit) (value_of digits.now) }
 {
     let mut value = 0;
     for digit in digits {
-        value = 10 * value + u64::from(*digit - b'0');
-        if value > LIMIT {
+        let Some(longer) = with_digit(value, *digit, limit) else {
             return None;
-        }
+        };
+        value = longer;
     }
     Some(value)
+}
+
+// What a number stands for with one more digit, where that is within the limit.
+fn with_digit(value: u64, digit: u8, limit: u64) -> Option<u64>
+    requires { IsDigit digit }
+    ensures { SomeIff result (10 * value + (digit - 48) ≤ limit) (10 * value + (digit - 48)) }
+{
+    let unit = u64::from(digit - b'0');
+    let longer = value.checked_mul(10)?.checked_add(unit)?;
+    if longer <= limit { Some(longer) } else { None }
 }
 
 /// The one text of an end.
