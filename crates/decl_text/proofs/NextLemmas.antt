@@ -1,5 +1,5 @@
 -- The next token and its fault are one thing, and a text in quotes is read back.
-use Rattle.std.proofs.Common.{◌≡◌, ◌+◌, ℕ, List, [], ◌∷◌, ◌++◌, length, encode_utf8_all, chars, IsTrue, refl, sym, ap, ◌∙◌, subst, arith, ◌≢◌, ◌⊎◌, ⊎_elim, Option, Some, None}
+use Rattle.std.proofs.Common.{◌≡◌, ◌+◌, ◌<◌, ℕ, List, [], ◌∷◌, ◌++◌, length, drop, encode_utf8_all, chars, IsTrue, refl, sym, ap, ◌∙◌, subst, arith, ◌≢◌, ◌⊎◌, ⊎_elim, Option, Some, None}
 use Rattle.std.specs.List.{flat_map}
 use Rattle.std.proofs.lemmas.List.{length-append, drop_at}
 use Rattle.std.proofs.lemmas.List.Elements.{All-nil}
@@ -10,7 +10,7 @@ use Rattle.decl_text.specs.declared.token.Kind.TheVariants.{Quoted, Finish}
 use Rattle.decl_text.specs.declared.token.Token.{Token}
 use Rattle.decl_text.specs.declared.fault.MappingFault.{MappingFault}
 use Rattle.decl_text.specs.Quotes.{in_quotes, IsQuoted}
-use Rattle.decl_text.specs.Tokens.{is_blank, IsNextToken, IsBadToken, IsNextFault}
+use Rattle.decl_text.specs.Tokens.{is_blank, EndsGap, IsNextToken, IsBadToken, IsNextFault}
 use Rattle.decl_text.specs.TokenList.{AreTokens}
 use Rattle.decl_text.proofs.QuoteLemmas.{characters_once, Ends-close}
 use Rattle.decl_text.proofs.OnceLemmas.{gap_once, spelled_once, bad_once, bad_is_no_token, EndsGap-token, EndsGap-bad}
@@ -60,6 +60,19 @@ next_apart bytes from a b p q =
     gap_once p.gap q.gap (p.spelled ++ p.rest) q.rest p.gap_before q.gap_before
     (EndsGap-token a.kind p.spelled p.rest p.whole) (EndsGap-bad q.rest b.code q.after q.bad) whole in
     bad_is_no_token q.rest b.code q.after a.kind p.spelled p.rest q.bad p.whole (sym after)
+
+nothing_in_front : (gap after bytes : List ℕ) → length gap ≡ 0 → bytes ≡ gap ++ after → bytes ≡ after
+nothing_in_front [] after bytes none e = e
+nothing_in_front (b ∷ bs) after bytes none e = absurd (omega arith)
+
+-- where a blank or a comment begins, the next token begins later
+pub token_is_later : (bytes : List ℕ) (at : ℕ) (token : Token) → ¬ (EndsGap (drop at bytes)) → IsNextToken bytes at token → at < token.start
+token_is_later bytes at token begins next =
+    let some : length next.gap ≢ 0 = λ none. begins (subst EndsGap
+    (sym (nothing_in_front next.gap (next.spelled ++ next.rest) (drop at bytes) none next.bytes_are))
+    (EndsGap-token token.kind next.spelled next.rest next.whole)) in
+    let start = next.start_is in
+    omega (arith, some)
 
 pub quoted_token : (before quoted text rest : List ℕ) → IsQuoted quoted text
     → IsNextToken (before ++ (quoted ++ rest)) (length before)

@@ -1,14 +1,14 @@
 -- A token at the front, from its parts.
 use Rattle.std.proofs.Common.{◌≡◌, ℕ, zero, suc, ◌+◌, ◌-◌, ◌≤◌, true, List, [], ◌∷◌, ◌++◌, length, take, drop, get_or, All, IsTrue, refl, sym, ap, ◌∙◌, subst, arith}
 use Rattle.std.proofs.lemmas.List.{take-append-drop, length-take-le, length-drop, length-append, drop-drop, drop_at, take_at}
-use Rattle.std.proofs.lemmas.List.Elements.{All-tail}
+use Rattle.std.proofs.lemmas.List.Elements.{All-nil, All-tail}
 use Rattle.std.proofs.lemmas.Bool.Decides.{nat_tests}
 use Rattle.decl_text.specs.declared.token.Kind.{Kind}
 use Rattle.decl_text.specs.declared.token.Kind.TheVariants.{Quoted}
 use Rattle.decl_text.specs.declared.token.Token.{Token}
 use Rattle.decl_text.specs.Quotes.{IsQuoted}
 use Rattle.decl_text.specs.declared.fault.Code.{Code}
-use Rattle.decl_text.specs.Tokens.{is_letter, is_name_byte, IsWord, EndsWord, IsSpelled, IsGap, IsNextToken, IsNextFault, IsBadToken}
+use Rattle.decl_text.specs.Tokens.{is_blank, is_letter, is_name_byte, IsWord, EndsWord, IsSpelled, IsGap, IsNextToken, IsNextFault, IsBadToken, IsGapBetween}
 
 letter_is_name_byte : (b : ℕ) → is_letter b ≡ true → is_name_byte b ≡ true
 letter_is_name_byte b letter = grind (arith, nat_tests)
@@ -20,35 +20,53 @@ IsWord-take [] n letter names whole = absurd cc
 IsWord-take (b ∷ bs) zero letter names whole = absurd (whole (letter_is_name_byte b letter))
 IsWord-take (b ∷ bs) (suc n) letter names whole = (letter, All-tail (λ c. IsTrue (is_name_byte c)) b (take n bs) names)
 
-pub next_token_parts : (bytes : List ℕ) (from gap len : ℕ) (kind : Kind) → gap ≤ length (drop from bytes)
-    → IsGap (take gap (drop from bytes)) (drop gap (drop from bytes)) → len ≤ length (drop (from + gap) bytes)
-    → IsSpelled kind (take len (drop (from + gap) bytes)) (drop len (drop (from + gap) bytes))
-    → IsNextToken bytes from (record { kind = kind; start = from + gap; end = (from + gap) + len })
-next_token_parts bytes from gap len kind gap_fits before len_fits whole =
-    let after : take len (drop (from + gap) bytes) ++ drop len (drop (from + gap) bytes) ≡ drop gap (drop from bytes) =
-    take-append-drop len (drop (from + gap) bytes) ∙ sym (drop-drop gap from bytes) in
+-- so many bytes at the front are a gap
+pub gap_between : (bytes : List ℕ) (from n : ℕ) → n ≤ length (drop from bytes)
+    → IsGap (take n (drop from bytes)) (drop n (drop from bytes)) → IsGapBetween bytes from (from + n)
+gap_between bytes from n fits is = record {
+  gap = take n (drop from bytes);
+  bytes_are = sym (take-append-drop n (drop from bytes)) ∙ ap (λ l. take n (drop from bytes) ++ l) (drop-drop n from bytes);
+  to_is = ap (λ k. from + k) (sym (length-take-le n (drop from bytes) fits));
+  is = subst (IsGap (take n (drop from bytes))) (drop-drop n from bytes) is;
+}
+
+-- between a place and itself stands nothing
+pub no_gap_between : (bytes : List ℕ) (from : ℕ) → IsGapBetween bytes from from
+no_gap_between bytes from = record {
+  gap = [];
+  bytes_are = refl;
+  to_is = omega arith;
+  is = record { blanks = []; comment = []; bytes_are = refl; all_blank = All-nil (λ b. IsTrue (is_blank b)); one_comment = tt };
+}
+
+-- behind a gap, so many bytes are the next token
+pub token_behind : (bytes : List ℕ) (from start len : ℕ) (kind : Kind) → IsGapBetween bytes from start → len ≤ length (drop start bytes)
+    → IsSpelled kind (take len (drop start bytes)) (drop len (drop start bytes))
+    → IsNextToken bytes from (record { kind = kind; start = start; end = start + len })
+token_behind bytes from start len kind before fits whole =
+    let after : take len (drop start bytes) ++ drop len (drop start bytes) ≡ drop start bytes = take-append-drop len (drop start bytes) in
     record {
-      gap = take gap (drop from bytes);
-      spelled = take len (drop (from + gap) bytes);
-      rest = drop len (drop (from + gap) bytes);
-      bytes_are = sym (take-append-drop gap (drop from bytes)) ∙ ap (λ l. take gap (drop from bytes) ++ l) (sym after);
-      gap_before = subst (IsGap (take gap (drop from bytes))) (sym after) before;
-      start_is = ap (λ n. from + n) (sym (length-take-le gap (drop from bytes) gap_fits));
-      end_is = ap (λ n. (from + gap) + n) (sym (length-take-le len (drop (from + gap) bytes) len_fits));
+      gap = before.gap;
+      spelled = take len (drop start bytes);
+      rest = drop len (drop start bytes);
+      bytes_are = before.bytes_are ∙ ap (λ l. before.gap ++ l) (sym after);
+      gap_before = subst (IsGap before.gap) (sym after) before.is;
+      start_is = before.to_is;
+      end_is = ap (λ n. start + n) (sym (length-take-le len (drop start bytes) fits));
       whole = whole;
     }
 
-pub next_fault_parts : (bytes : List ℕ) (from gap after : ℕ) (code : Code) → gap ≤ length (drop from bytes)
-    → IsGap (take gap (drop from bytes)) (drop gap (drop from bytes)) → IsBadToken (drop (from + gap) bytes) code after
-    → IsNextFault bytes from (record { code = code; place = (from + gap) + after })
-next_fault_parts bytes from gap after code gap_fits before bad = record {
-  gap = take gap (drop from bytes);
-  rest = drop gap (drop from bytes);
+-- behind a gap, a token's fault is the next
+pub fault_behind : (bytes : List ℕ) (from start after : ℕ) (code : Code) → IsGapBetween bytes from start
+    → IsBadToken (drop start bytes) code after → IsNextFault bytes from (record { code = code; place = start + after })
+fault_behind bytes from start after code before bad = record {
+  gap = before.gap;
+  rest = drop start bytes;
   after = after;
-  bytes_are = sym (take-append-drop gap (drop from bytes));
-  gap_before = before;
-  place_is = ap (λ n. (from + n) + after) (sym (length-take-le gap (drop from bytes) gap_fits));
-  bad = subst (λ l. IsBadToken l code after) (sym (drop-drop gap from bytes)) bad;
+  bytes_are = before.bytes_are;
+  gap_before = before.is;
+  place_is = ap (λ n. n + after) before.to_is;
+  bad = bad;
 }
 
 -- the bytes from a token's start to its end are those that it is spelled by

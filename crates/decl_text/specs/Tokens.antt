@@ -136,3 +136,20 @@ pub record IsNextFault (bytes : List ℕ) (from : ℕ) (fault : MappingFault) : 
   pub gap_before : IsGap gap rest
   pub place_is : fault.place ≡ (from + length gap) + after
   pub bad : IsBadToken rest fault.code after
+
+-- exactly at this place the token begins, with neither a blank nor a comment before it
+pub record IsTokenAt (bytes : List ℕ) (at : ℕ) (token : Token) : Type 0 where
+  pub next : IsNextToken bytes at token
+  pub start_is : token.start ≡ at
+
+-- exactly at this place no token begins: a blank or a comment does, or a token with this fault
+abbrev pub IsFaultAt : List ℕ → ℕ → MappingFault → Type 0
+IsFaultAt bytes at fault =
+    (¬ EndsGap (drop at bytes) × (fault ≡ record { code = X1; place = at })) ⊎ (EndsGap (drop at bytes) × IsNextFault bytes at fault)
+
+-- from the first place up to the second stand blanks, and perhaps a comment
+pub record IsGapBetween (bytes : List ℕ) (from to : ℕ) : Type 0 where
+  pub gap : List ℕ
+  pub bytes_are : drop from bytes ≡ gap ++ drop to bytes
+  pub to_is : to ≡ from + length gap
+  pub is : IsGap gap (drop to bytes)

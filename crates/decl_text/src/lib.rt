@@ -15,5 +15,5 @@ pub use fault::{Code, MappingFault, ReadError};
 pub use parts::{Name, fault_at, is_word, read_name, read_sign, read_token};
 pub use printing::{join, print_declaration};
 pub use quotes::{print_quoted, quoted};
-pub use scan::next_token;
+pub use scan::{next_token, token_at};
 pub use token::{Kind, Token};

@@ -3,7 +3,8 @@
 ghost use Rattle.std.specs.Prelude.{◌≡◌, ◌≢◌, ℕ, ◌+◌, ◌<◌, ◌≤◌, List, [], ◌∷◌, ◌++◌, length, take, drop, slice_index, All, IsTrue, IfOk, IfErr, IfSome, IfNone};
 ghost use Rattle.decl_text.specs.declared.token.Kind.{Kind as KindValue};
 ghost use Rattle.decl_text.specs.declared.token.Kind.TheVariants as kinds;
-ghost use Rattle.decl_text.specs.Tokens.{is_blank, is_letter, is_name_byte, IsWord, EndsWord, IsSpelled, EndsLine, IsComment, IsGap, EndsGap, IsNextToken, BeginsNothing, IsBadQuoted, IsBadToken, IsNextFault};
+ghost use Rattle.decl_text.specs.declared.token.Token.{Token as TokenValue};
+ghost use Rattle.decl_text.specs.Tokens.{is_blank, is_letter, is_name_byte, IsWord, EndsWord, IsSpelled, EndsLine, IsComment, IsGap, EndsGap, IsNextToken, BeginsNothing, IsBadQuoted, IsBadToken, IsNextFault, IsTokenAt, IsFaultAt, IsGapBetween};
 ghost use Rattle.decl_text.specs.Quotes.{IsQuoted};
 ghost use Rattle.decl_text.specs.Pieces.{EndsBlanks};
 
@@ -31,6 +32,38 @@ pub fn next_token(bytes: &[u8], from: usize) -> Result<Token, MappingFault>
     ensures fault { IfErr result (λ fault. IsNextFault bytes.now from fault) }
 {
     let start = from + gap_len(&bytes[from..]);
+    token_from(bytes, start)
+}
+
+/// The token that begins exactly at a place, with neither a blank nor a comment before it. Where none
+/// begins there, the fault is the token's own, or that of a byte that begins no token.
+pub fn token_at(bytes: &[u8], at: usize) -> Result<Token, MappingFault>
+    requires { at ≤ length bytes.now }
+    ensures token { IfOk result (λ token. IsTokenAt bytes.now at token) }
+    ensures within { IfOk result (λ token. token.end ≤ length bytes.now) }
+    ensures fault { IfErr result (λ fault. IsFaultAt bytes.now at fault) }
+    ensures none { IfErr result (λ _. (token : TokenValue) → IsNextToken bytes.now at token → at < token.start) }
+{
+    if begins_gap(&bytes[at..]) {
+        return Err(MappingFault {
+            code: Code::X1,
+            place: at,
+        });
+    }
+    token_from(bytes, at)
+}
+
+// The token that begins at a place behind blanks and a comment, or its fault.
+fn token_from(bytes: &[u8], start: usize) -> Result<Token, MappingFault>
+    requires within { start ≤ length bytes.now }
+    requires over { EndsGap (drop start bytes.now) }
+    ensures at { IfOk result (λ token. IsTokenAt bytes.now start token) }
+    ensures within { IfOk result (λ token. token.end ≤ length bytes.now) }
+    ensures token { (from : ℕ) → IsGapBetween bytes.now from start
+        → IfOk result (λ token. IsNextToken bytes.now from token) }
+    ensures fault { (from : ℕ) → IsGapBetween bytes.now from start
+        → IfErr result (λ fault. IsNextFault bytes.now from fault) }
+{
     match front_of(&bytes[start..]) {
         Ok(front) => Ok(Token {
             kind: front.kind,
@@ -41,6 +74,17 @@ pub fn next_token(bytes: &[u8], from: usize) -> Result<Token, MappingFault>
             code: bad.code,
             place: start + bad.after,
         }),
+    }
+}
+
+// Whether a blank or a comment begins here.
+fn begins_gap(bytes: &[u8]) -> bool
+    ensures gap { IsTrue result → ¬ EndsGap bytes.now }
+    ensures none { ¬ (IsTrue result) → EndsGap bytes.now }
+{
+    match bytes {
+        [first, ..] => is_blank(*first) || *first == b'#',
+        [] => false,
     }
 }
 

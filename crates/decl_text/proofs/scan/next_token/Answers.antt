@@ -1,11 +1,15 @@
 use Rattle.std.proofs.lemmas.List.{take_rest}
-use Rattle.decl_text.proofs.ScanLemmas.{next_token_parts}
+use Rattle.decl_text.proofs.ScanLemmas.{gap_between}
 use Rattle.decl_text.proofs.scan.next_token.Goals as goal
 
-pub returns-in-Ok-clause-token : goal.returns-in-Ok-clause-token
-returns-in-Ok-clause-token c =
-    let room = simp take_rest at c.gap_len.ensures.within in
-    let before = simp take_rest at c.gap_len.ensures.gap in
-    let fits = simp take_rest at c.in-Ok.ensures.within in
-    let whole = simp take_rest at c.in-Ok.ensures.token in
-    next_token_parts c.args.bytes.now c.args.from c.gap_len.result c.in-Ok.front.len c.in-Ok.front.kind room before fits whole
+pub returns-clause-token : goal.returns-clause-token
+returns-clause-token c =
+    let fits = simp take_rest at c.gap_len.ensures.within in
+    let gap = simp take_rest at c.gap_len.ensures.gap in
+    c.token_from.ensures.token c.args.from (gap_between c.args.bytes.now c.args.from c.gap_len.result fits gap)
+
+pub returns-clause-fault : goal.returns-clause-fault
+returns-clause-fault c =
+    let fits = simp take_rest at c.gap_len.ensures.within in
+    let gap = simp take_rest at c.gap_len.ensures.gap in
+    c.token_from.ensures.fault c.args.from (gap_between c.args.bytes.now c.args.from c.gap_len.result fits gap)
