@@ -1,4 +1,5 @@
 pub mod ListLemmas
+pub mod DistinctLemmas
 pub mod SnapshotLemmas
 pub mod CoalescedLemmas
 pub mod OrderLemmas

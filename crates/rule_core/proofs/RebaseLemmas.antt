@@ -12,8 +12,8 @@ use Rattle.rule_core.specs.declared.rules.Egd.{Egd}
 use Rattle.rule_core.specs.declared.rules.Query.{Query}
 use Rattle.rule_core.specs.declared.rules.Relation.{Relation}
 use Rattle.rule_core.specs.declared.rules.Tgd.{Tgd}
-use Rattle.rule_core.specs.Mapping.{RuleSet}
-use Rattle.rule_core.specs.Validity.{variables_in, occurrences, AreNumbered, IsWithin, FitsRelation, AreAtoms, IsTgd, IsEgd, IsBranch, IsQuery, IsValid}
+use Rattle.rule_core.specs.Mapping.{RuleSet, rule_names}
+use Rattle.rule_core.specs.Validity.{AreDistinct, variables_in, occurrences, AreNumbered, IsWithin, FitsRelation, AreAtoms, IsTgd, IsEgd, IsBranch, IsQuery, IsValid}
 use Rattle.rule_core.specs.Rebase.{number_in, renumbered_arg, renumbered_atom, renumbered_tgd, renumbered_egd, renumbered_branch, renumbered_query, renumbered}
 use Rattle.rule_core.proofs.ListLemmas.{AllPairs-map}
 
@@ -99,6 +99,16 @@ module _ (number : ConstId → ConstId) where
     branches = all_mapped (IsBranch targets query.head) (renumbered_branch number) (branch_same targets query.head) query.branches h.branches;
   }
 
+  names_same : {X N : Type 0} (name : X → N) (g : X → X) → ((x : X) → name (g x) ≡ name x) → (xs : List X)
+      → map name (map g xs) ≡ map name xs
+  names_same name g same [] = refl
+  names_same name g same (x ∷ xs) = λ i. same x i ∷ names_same name g same xs i
+
+  rule_names_same : (rules : RuleSet) → rule_names (renumbered number rules) ≡ rule_names rules
+  rule_names_same rules = λ i.
+      names_same (λ (t : Tgd). t.name) (renumbered_tgd number) (λ t. refl) rules.tgds i
+      ++ names_same (λ (e : Egd). e.name) (renumbered_egd number) (λ e. refl) rules.egds i
+
   -- validity does not look at constants
   pub renumbered_valid : (rules : RuleSet) → IsValid rules → IsValid (renumbered number rules)
   renumbered_valid rules h = record {
@@ -108,11 +118,7 @@ module _ (number : ConstId → ConstId) where
       egds = all_mapped (IsEgd rules.targets) (renumbered_egd number) (egd_same rules.targets) rules.egds h.rules.egds;
       most_tgds = omega (arith, h.rules.most_tgds, length-map rules.tgds (renumbered_tgd number));
       most_egds = omega (arith, h.rules.most_egds, length-map rules.egds (renumbered_egd number));
-      tgd_names = AllPairs-map (λ a b. a.name ≢ b.name) (renumbered_tgd number) rules.tgds h.rules.tgd_names;
-      egd_names = AllPairs-map (λ a b. a.name ≢ b.name) (renumbered_egd number) rules.egds h.rules.egd_names;
-      kinds = All-map (λ t. All (λ e. t.name ≢ e.name) (map (renumbered_egd number) rules.egds)) (renumbered_tgd number) rules.tgds
-          (All-weaker (λ t. All (λ e. t.name ≢ e.name) rules.egds) (λ t. All (λ e. t.name ≢ e.name) (map (renumbered_egd number) rules.egds))
-          (λ t. All-map (λ e. t.name ≢ e.name) (renumbered_egd number) rules.egds) rules.tgds h.rules.kinds);
+      names = subst AreDistinct (sym (rule_names_same rules)) h.rules.names;
     };
     queries = record {
       each = all_mapped (IsQuery rules.targets) (renumbered_query number) (query_same rules.targets) rules.queries h.queries.each;

@@ -1,6 +1,6 @@
 -- What is valid stays valid as relations are added, and a valid list with a new last entry is told by that entry.
 use Rattle.std.proofs.Common.{◌≡◌, ℕ, List, [], ◌∷◌, ◌++◌, length, get_or, Option, Some, None, refl, sym, ap, ◌∙◌, subst, arith, All, AllPairs}
-use Rattle.std.specs.Prelude.{◌≢◌, IsSomeAnd, slice_get}
+use Rattle.std.specs.Prelude.{◌≢◌, ◌↔◌, IsSomeAnd, slice_get}
 use Rattle.std.proofs.Math.ListN.{get_or-append}
 use Rattle.std.proofs.Math.Seq.{get_or-append_seam}
 use Rattle.std.proofs.lemmas.List.{length_push}
@@ -17,7 +17,8 @@ use Rattle.rule_core.specs.Mapping.{RuleSet}
 use Rattle.rule_core.specs.Validity.{IsRelation, FitsRelation, AreAtoms, IsTgd, IsEgd, IsBranch, IsQuery, IsValid}
 use Rattle.rule_core.specs.declared.rules.Place.{Place}
 use Rattle.rule_core.specs.declared.rules.Place.TheVariants.{Source, Target}
-use Rattle.rule_core.specs.Adding.{with_relation, with_tgd, with_egd, with_query, IsNewRelation, IsNewTgd, IsNewEgd, IsNewQuery}
+use Rattle.rule_core.specs.Adding.{with_relation, with_tgd, with_egd, with_query, IsNewRuleName, IsNewRelation, IsNewTgd, IsNewEgd, IsNewQuery}
+use Rattle.rule_core.proofs.DistinctLemmas.{with_first-distinct, first_is_new, with_second-distinct, second_is_new, others_of_both}
 
 module _ {X : Type 0} where
   -- the front and the last of a list with one more
@@ -105,17 +106,17 @@ module _ (relations : List Relation) (relation : Relation) where
 
 module _ (rules : RuleSet) (relation : Relation) where
   -- a mapping with one more source is valid exactly where the source is new
-  pub with_source : IsValid rules → IsNewRelation rules.sources rules.targets relation
+  pub with_source : IsValid rules → IsNewRelation rules relation
       → IsValid (record rules { sources = rules.sources ++ relation ∷ [] })
   with_source h new = record {
     relations = record {
       source_relations = All-push IsRelation rules.sources relation h.relations.source_relations new.valid;
       target_relations = h.relations.target_relations;
-      most = omega (arith, new.place, length_push rules.sources relation);
-      source_names = all_pairs_push (λ a b. a.name ≢ b.name) rules.sources relation h.relations.source_names new.new_source;
+      most = omega (arith, new.room, length_push rules.sources relation);
+      source_names = all_pairs_push (λ a b. a.name ≢ b.name) rules.sources relation h.relations.source_names new.name.0;
       target_names = h.relations.target_names;
       sides = All-push (λ s. All (λ t. s.name ≢ t.name) rules.targets) rules.sources relation h.relations.sides
-          (All-weaker (λ r. r.name ≢ relation.name) (λ t. relation.name ≢ t.name) (λ t n e. n (sym e)) rules.targets new.new_target);
+          (All-weaker (λ r. r.name ≢ relation.name) (λ t. relation.name ≢ t.name) (λ t n e. n (sym e)) rules.targets new.name.1);
     };
     rules = record {
       tgds = All-weaker (IsTgd rules.sources rules.targets) (IsTgd (rules.sources ++ relation ∷ []) rules.targets)
@@ -123,35 +124,35 @@ module _ (rules : RuleSet) (relation : Relation) where
       egds = h.rules.egds;
       most_tgds = h.rules.most_tgds;
       most_egds = h.rules.most_egds;
-      tgd_names = h.rules.tgd_names;
-      egd_names = h.rules.egd_names;
-      kinds = h.rules.kinds;
+      names = h.rules.names;
     };
     queries = h.queries;
   }
 
   pub new_source : IsValid (record rules { sources = rules.sources ++ relation ∷ [] })
-      → IsNewRelation rules.sources rules.targets relation
+      → IsNewRelation rules relation
   new_source h = record {
     valid = All-last IsRelation rules.sources relation h.relations.source_relations;
-    place = omega (arith, h.relations.most, length_push rules.sources relation);
-    new_source = AllPairs-last (λ a b. a.name ≢ b.name) rules.sources relation h.relations.source_names;
-    new_target = All-weaker (λ t. relation.name ≢ t.name) (λ r. r.name ≢ relation.name) (λ t n e. n (sym e)) rules.targets
-        (All-last (λ s. All (λ t. s.name ≢ t.name) rules.targets) rules.sources relation h.relations.sides);
+    room = omega (arith, h.relations.most, length_push rules.sources relation);
+    name = (
+      AllPairs-last (λ a b. a.name ≢ b.name) rules.sources relation h.relations.source_names,
+      All-weaker (λ t. relation.name ≢ t.name) (λ r. r.name ≢ relation.name) (λ t n e. n (sym e)) rules.targets
+          (All-last (λ s. All (λ t. s.name ≢ t.name) rules.targets) rules.sources relation h.relations.sides),
+    );
   }
 
   -- and so for one more target
-  pub with_target : IsValid rules → IsNewRelation rules.sources rules.targets relation
+  pub with_target : IsValid rules → IsNewRelation rules relation
       → IsValid (record rules { targets = rules.targets ++ relation ∷ [] })
   with_target h new = record {
     relations = record {
       source_relations = h.relations.source_relations;
       target_relations = All-push IsRelation rules.targets relation h.relations.target_relations new.valid;
-      most = omega (arith, new.place, length_push rules.targets relation);
+      most = omega (arith, new.room, length_push rules.targets relation);
       source_names = h.relations.source_names;
-      target_names = all_pairs_push (λ a b. a.name ≢ b.name) rules.targets relation h.relations.target_names new.new_target;
+      target_names = all_pairs_push (λ a b. a.name ≢ b.name) rules.targets relation h.relations.target_names new.name.1;
       sides = λ k d lt. All-push (λ t. (get_or rules.sources k d).name ≢ t.name) rules.targets relation
-          (h.relations.sides k d lt) (new.new_source k d lt);
+          (h.relations.sides k d lt) (new.name.0 k d lt);
     };
     rules = record {
       tgds = All-weaker (IsTgd rules.sources rules.targets) (IsTgd rules.sources (rules.targets ++ relation ∷ []))
@@ -160,9 +161,7 @@ module _ (rules : RuleSet) (relation : Relation) where
           (egd_more rules.targets relation) rules.egds h.rules.egds;
       most_tgds = h.rules.most_tgds;
       most_egds = h.rules.most_egds;
-      tgd_names = h.rules.tgd_names;
-      egd_names = h.rules.egd_names;
-      kinds = h.rules.kinds;
+      names = h.rules.names;
     };
     queries = record {
       each = All-weaker (IsQuery rules.targets) (IsQuery (rules.targets ++ relation ∷ []))
@@ -173,80 +172,80 @@ module _ (rules : RuleSet) (relation : Relation) where
   }
 
   pub new_target : IsValid (record rules { targets = rules.targets ++ relation ∷ [] })
-      → IsNewRelation rules.sources rules.targets relation
+      → IsNewRelation rules relation
   new_target h = record {
     valid = All-last IsRelation rules.targets relation h.relations.target_relations;
-    place = omega (arith, h.relations.most, length_push rules.targets relation);
-    new_source = λ k d lt. All-last (λ t. (get_or rules.sources k d).name ≢ t.name) rules.targets relation (h.relations.sides k d lt);
-    new_target = AllPairs-last (λ a b. a.name ≢ b.name) rules.targets relation h.relations.target_names;
+    room = omega (arith, h.relations.most, length_push rules.targets relation);
+    name = (
+      λ k d lt. All-last (λ t. (get_or rules.sources k d).name ≢ t.name) rules.targets relation (h.relations.sides k d lt),
+      AllPairs-last (λ a b. a.name ≢ b.name) rules.targets relation h.relations.target_names,
+    );
   }
 
 pub with_relation-valid : (rules : RuleSet) (place : Place) (relation : Relation) → IsValid rules
-    → IsNewRelation rules.sources rules.targets relation → IsValid (with_relation rules place relation)
+    → IsNewRelation rules relation → IsValid (with_relation rules place relation)
 with_relation-valid rules Source relation h new = with_source rules relation h new
 with_relation-valid rules Target relation h new = with_target rules relation h new
 
 pub new_relation : (rules : RuleSet) (place : Place) (relation : Relation) → IsValid (with_relation rules place relation)
-    → IsNewRelation rules.sources rules.targets relation
+    → IsNewRelation rules relation
 new_relation rules Source relation h = new_source rules relation h
 new_relation rules Target relation h = new_target rules relation h
 
+abbrev tgd_name : Tgd → List ℕ
+tgd_name tgd = tgd.name
+
+abbrev egd_name : Egd → List ℕ
+egd_name egd = egd.name
+
+-- a rule's name is new exactly where it is new among the rules of each kind
+pub new_rule_name : (rules : RuleSet) (name : List ℕ)
+    → IsNewRuleName rules name ↔ (All (λ t. t.name ≢ name) rules.tgds × All (λ e. e.name ≢ name) rules.egds)
+new_rule_name rules name = others_of_both tgd_name egd_name rules.tgds rules.egds name
+
 -- a mapping with one more tgd, egd or query is valid exactly where that is new
 module _ (rules : RuleSet) where
-  pub with_tgd-valid : (tgd : Tgd) → IsValid rules → IsNewTgd rules.sources rules.targets rules.tgds rules.egds tgd → IsValid (with_tgd rules tgd)
+  pub with_tgd-valid : (tgd : Tgd) → IsValid rules → IsNewTgd rules tgd → IsValid (with_tgd rules tgd)
   with_tgd-valid tgd h new = record {
     relations = h.relations;
     rules = record {
       tgds = All-push (IsTgd rules.sources rules.targets) rules.tgds tgd h.rules.tgds new.valid;
       egds = h.rules.egds;
-      most_tgds = omega (arith, new.place, length_push rules.tgds tgd);
+      most_tgds = omega (arith, new.room, length_push rules.tgds tgd);
       most_egds = h.rules.most_egds;
-      tgd_names = all_pairs_push (λ a b. a.name ≢ b.name) rules.tgds tgd h.rules.tgd_names new.name.new_tgd;
-      egd_names = h.rules.egd_names;
-      kinds = All-push (λ t. All (λ e. t.name ≢ e.name) rules.egds) rules.tgds tgd h.rules.kinds
-          (All-weaker (λ e. e.name ≢ tgd.name) (λ e. tgd.name ≢ e.name) (λ e n q. n (sym q)) rules.egds new.name.new_egd);
+      names = with_first-distinct tgd_name egd_name rules.tgds rules.egds tgd h.rules.names new.name;
     };
     queries = h.queries;
   }
 
-  pub new_tgd : (tgd : Tgd) → IsValid (with_tgd rules tgd) → IsNewTgd rules.sources rules.targets rules.tgds rules.egds tgd
+  pub new_tgd : (tgd : Tgd) → IsValid (with_tgd rules tgd) → IsNewTgd rules tgd
   new_tgd tgd h = record {
-    place = omega (arith, h.rules.most_tgds, length_push rules.tgds tgd);
+    room = omega (arith, h.rules.most_tgds, length_push rules.tgds tgd);
     valid = All-last (IsTgd rules.sources rules.targets) rules.tgds tgd h.rules.tgds;
-    name = record {
-      new_tgd = AllPairs-last (λ a b. a.name ≢ b.name) rules.tgds tgd h.rules.tgd_names;
-      new_egd = All-weaker (λ e. tgd.name ≢ e.name) (λ e. e.name ≢ tgd.name) (λ e n q. n (sym q)) rules.egds
-          (All-last (λ t. All (λ e. t.name ≢ e.name) rules.egds) rules.tgds tgd h.rules.kinds);
-    };
+    name = first_is_new tgd_name egd_name rules.tgds rules.egds tgd h.rules.names;
   }
 
-  pub with_egd-valid : (egd : Egd) → IsValid rules → IsNewEgd rules.targets rules.tgds rules.egds egd → IsValid (with_egd rules egd)
+  pub with_egd-valid : (egd : Egd) → IsValid rules → IsNewEgd rules egd → IsValid (with_egd rules egd)
   with_egd-valid egd h new = record {
     relations = h.relations;
     rules = record {
       tgds = h.rules.tgds;
       egds = All-push (IsEgd rules.targets) rules.egds egd h.rules.egds new.valid;
       most_tgds = h.rules.most_tgds;
-      most_egds = omega (arith, new.place, length_push rules.egds egd);
-      tgd_names = h.rules.tgd_names;
-      egd_names = all_pairs_push (λ a b. a.name ≢ b.name) rules.egds egd h.rules.egd_names new.name.new_egd;
-      kinds = λ k d lt. All-push (λ e. (get_or rules.tgds k d).name ≢ e.name) rules.egds egd
-          (h.rules.kinds k d lt) (new.name.new_tgd k d lt);
+      most_egds = omega (arith, new.room, length_push rules.egds egd);
+      names = with_second-distinct tgd_name egd_name rules.tgds rules.egds egd h.rules.names new.name;
     };
     queries = h.queries;
   }
 
-  pub new_egd : (egd : Egd) → IsValid (with_egd rules egd) → IsNewEgd rules.targets rules.tgds rules.egds egd
+  pub new_egd : (egd : Egd) → IsValid (with_egd rules egd) → IsNewEgd rules egd
   new_egd egd h = record {
-    place = omega (arith, h.rules.most_egds, length_push rules.egds egd);
+    room = omega (arith, h.rules.most_egds, length_push rules.egds egd);
     valid = All-last (IsEgd rules.targets) rules.egds egd h.rules.egds;
-    name = record {
-      new_tgd = λ k d lt. All-last (λ e. (get_or rules.tgds k d).name ≢ e.name) rules.egds egd (h.rules.kinds k d lt);
-      new_egd = AllPairs-last (λ a b. a.name ≢ b.name) rules.egds egd h.rules.egd_names;
-    };
+    name = second_is_new tgd_name egd_name rules.tgds rules.egds egd h.rules.names;
   }
 
-  pub with_query-valid : (query : Query) → IsValid rules → IsNewQuery rules.targets rules.queries query → IsValid (with_query rules query)
+  pub with_query-valid : (query : Query) → IsValid rules → IsNewQuery rules query → IsValid (with_query rules query)
   with_query-valid query h new = record {
     relations = h.relations;
     rules = record {
@@ -254,20 +253,18 @@ module _ (rules : RuleSet) where
       egds = h.rules.egds;
       most_tgds = h.rules.most_tgds;
       most_egds = h.rules.most_egds;
-      tgd_names = h.rules.tgd_names;
-      egd_names = h.rules.egd_names;
-      kinds = h.rules.kinds;
+      names = h.rules.names;
     };
     queries = record {
       each = All-push (IsQuery rules.targets) rules.queries query h.queries.each new.valid;
-      most = omega (arith, new.place, length_push rules.queries query);
+      most = omega (arith, new.room, length_push rules.queries query);
       names = all_pairs_push (λ a b. a.name ≢ b.name) rules.queries query h.queries.names new.name;
     };
   }
 
-  pub new_query : (query : Query) → IsValid (with_query rules query) → IsNewQuery rules.targets rules.queries query
+  pub new_query : (query : Query) → IsValid (with_query rules query) → IsNewQuery rules query
   new_query query h = record {
-    place = omega (arith, h.queries.most, length_push rules.queries query);
+    room = omega (arith, h.queries.most, length_push rules.queries query);
     valid = All-last (IsQuery rules.targets) rules.queries query h.queries.each;
     name = AllPairs-last (λ a b. a.name ≢ b.name) rules.queries query h.queries.names;
   }

@@ -6,7 +6,8 @@ use Rattle.rule_core.specs.declared.rules.Relation.{Relation}
 use Rattle.rule_core.specs.declared.rules.Tgd.{Tgd}
 use Rattle.rule_core.specs.declared.rules.Egd.{Egd}
 use Rattle.rule_core.specs.declared.rules.Query.{Query}
-use Rattle.rule_core.specs.Mapping.{RuleSet}
+use Rattle.rule_core.specs.Limits.{most_relations, most_tgds, most_egds, most_queries}
+use Rattle.rule_core.specs.Mapping.{RuleSet, rule_names}
 use Rattle.rule_core.specs.Validity.{IsRelation, IsTgd, IsEgd, IsQuery}
 
 -- the relations of a side
@@ -35,32 +36,38 @@ with_query rules query = record rules { queries = rules.queries ++ query ∷ [] 
 abbrev pub IsNamedAt : RuleSet → List ℕ → Place → ℕ → Type 0
 IsNamedAt rules name place number = IsSomeAnd (slice_get (relations_of rules place) number) (λ r. r.name ≡ name)
 
--- what a new relation must meet: there is place for it, and no relation has its name
-pub record IsNewRelation (sources targets : List Relation) (relation : Relation) : Type 0 where
-  pub valid : IsRelation relation
-  pub place : length sources + length targets < 64
-  pub new_source : All (λ r. r.name ≢ relation.name) sources
-  pub new_target : All (λ r. r.name ≢ relation.name) targets
+-- no relation of either side has the name
+abbrev pub IsNewRelationName : RuleSet → List ℕ → Type 0
+IsNewRelationName rules name = All (λ r. r.name ≢ name) rules.sources × All (λ r. r.name ≢ name) rules.targets
 
--- what a new rule's name must meet: no tgd and no egd has it
-pub record IsNewRuleName (tgds : List Tgd) (egds : List Egd) (name : List ℕ) : Type 0 where
-  pub new_tgd : All (λ t. t.name ≢ name) tgds
-  pub new_egd : All (λ e. e.name ≢ name) egds
+-- no rule of any kind has the name
+abbrev pub IsNewRuleName : RuleSet → List ℕ → Type 0
+IsNewRuleName rules name = All (λ other. other ≢ name) (rule_names rules)
+
+-- no query has the name
+abbrev pub IsNewQueryName : RuleSet → List ℕ → Type 0
+IsNewQueryName rules name = All (λ q. q.name ≢ name) rules.queries
+
+-- what a new relation must meet: there is room for it, and its name is new
+pub record IsNewRelation (rules : RuleSet) (relation : Relation) : Type 0 where
+  pub room : length rules.sources + length rules.targets < most_relations
+  pub valid : IsRelation relation
+  pub name : IsNewRelationName rules relation.name
 
 -- what a new tgd must meet
-pub record IsNewTgd (sources targets : List Relation) (tgds : List Tgd) (egds : List Egd) (tgd : Tgd) : Type 0 where
-  pub place : length tgds < 256
-  pub valid : IsTgd sources targets tgd
-  pub name : IsNewRuleName tgds egds tgd.name
+pub record IsNewTgd (rules : RuleSet) (tgd : Tgd) : Type 0 where
+  pub room : length rules.tgds < most_tgds
+  pub valid : IsTgd rules.sources rules.targets tgd
+  pub name : IsNewRuleName rules tgd.name
 
 -- what a new egd must meet
-pub record IsNewEgd (targets : List Relation) (tgds : List Tgd) (egds : List Egd) (egd : Egd) : Type 0 where
-  pub place : length egds < 256
-  pub valid : IsEgd targets egd
-  pub name : IsNewRuleName tgds egds egd.name
+pub record IsNewEgd (rules : RuleSet) (egd : Egd) : Type 0 where
+  pub room : length rules.egds < most_egds
+  pub valid : IsEgd rules.targets egd
+  pub name : IsNewRuleName rules egd.name
 
 -- what a new query must meet
-pub record IsNewQuery (targets : List Relation) (queries : List Query) (query : Query) : Type 0 where
-  pub place : length queries < 64
-  pub valid : IsQuery targets query
-  pub name : All (λ q. q.name ≢ query.name) queries
+pub record IsNewQuery (rules : RuleSet) (query : Query) : Type 0 where
+  pub room : length rules.queries < most_queries
+  pub valid : IsQuery rules.targets query
+  pub name : IsNewQueryName rules query.name

@@ -7,6 +7,7 @@ pub mod Homomorphism
 pub mod Solution
 pub mod Coalesced
 pub mod Tables
+pub mod Limits
 pub mod Names
 pub mod Validity
 pub mod Adding

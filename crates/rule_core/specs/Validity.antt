@@ -1,4 +1,4 @@
--- What makes the relations, rules and queries of a mapping valid.
+-- What makes the relations, rules and queries of a mapping valid: among other things, they are within the limits.
 use Rattle.std.specs.Prelude.{◌≡◌, ◌≢◌, ◌↔◌, ℕ, ◌+◌, ◌<◌, ◌≤◌, List, [], ◌∷◌, length, take, flat_map, All, AllPairs, Contains, IsSomeAnd, Some, slice_get, slice_index_or, ⊤}
 use Rattle.rule_core.specs.declared.rules.Arg.{Arg}
 use Rattle.rule_core.specs.declared.rules.Arg.TheVariants.{Var, Const}
@@ -8,18 +8,19 @@ use Rattle.rule_core.specs.declared.rules.Egd.{Egd}
 use Rattle.rule_core.specs.declared.rules.Query.{Query}
 use Rattle.rule_core.specs.declared.rules.Relation.{Relation}
 use Rattle.rule_core.specs.declared.rules.Tgd.{Tgd}
-use Rattle.rule_core.specs.Mapping.{RuleSet}
+use Rattle.rule_core.specs.Limits.{most_relations, most_columns, most_tgds, most_egds, most_queries, most_atoms, most_variables, most_head_variables, most_disjuncts}
+use Rattle.rule_core.specs.Mapping.{RuleSet, rule_names}
 use Rattle.rule_core.specs.Names.{IsName}
 
 -- no two texts of the list are equal
 abbrev pub AreDistinct : List (List ℕ) → Type 0
 AreDistinct texts = AllPairs (λ a b. a ≢ b) texts
 
--- a name, and 1 to 16 columns with names of their own
+-- a name, and some columns with names of their own
 pub record IsRelation (relation : Relation) : Type 0 where
   pub name : IsName relation.name
   pub some : 1 ≤ length relation.columns
-  pub most : length relation.columns ≤ 16
+  pub most : length relation.columns ≤ most_columns
   pub columns : All IsName relation.columns
   pub distinct : AreDistinct relation.columns
 
@@ -47,15 +48,15 @@ IsWithin n (Const c) = ⊤
 abbrev pub FitsRelation : List Relation → Atom → Type 0
 FitsRelation relations atom = IsSomeAnd (slice_get relations atom.relation) (λ r. length atom.args ≡ length r.columns)
 
--- 1 to 8 atoms over these relations
+-- some atoms over these relations
 pub record AreAtoms (relations : List Relation) (atoms : List Atom) : Type 0 where
   pub some : 1 ≤ length atoms
-  pub most : length atoms ≤ 8
+  pub most : length atoms ≤ most_atoms
   pub fit : All (FitsRelation relations) atoms
 
--- at most 32 variables, with names of their own
+-- variables with names of their own
 pub record AreVariables (vars : List (List ℕ)) : Type 0 where
-  pub most : length vars ≤ 32
+  pub most : length vars ≤ most_variables
   pub names : All IsName vars
   pub distinct : AreDistinct vars
 
@@ -87,39 +88,37 @@ pub record IsBranch (targets : List Relation) (head : List (List ℕ)) (branch :
   pub arity : length branch.columns ≡ length head
   pub columns : (k : ℕ) → k < length head → slice_get branch.vars (slice_index_or branch.columns k 0) ≡ slice_get head k
 
--- at most 16 head variables, with names of their own, and 1 to 8 disjuncts
+-- head variables with names of their own, and some disjuncts
 pub record IsQuery (targets : List Relation) (query : Query) : Type 0 where
   pub name : IsName query.name
   pub head : All IsName query.head
-  pub head_most : length query.head ≤ 16
+  pub head_most : length query.head ≤ most_head_variables
   pub distinct : AreDistinct query.head
   pub some : 1 ≤ length query.branches
-  pub most : length query.branches ≤ 8
+  pub most : length query.branches ≤ most_disjuncts
   pub branches : All (IsBranch targets query.head) query.branches
 
--- at most 64 relations on both sides together, no two of one name
+-- relations of both sides, no two of one name
 pub record AreRelations (sources targets : List Relation) : Type 0 where
   pub source_relations : All IsRelation sources
   pub target_relations : All IsRelation targets
-  pub most : length sources + length targets ≤ 64
+  pub most : length sources + length targets ≤ most_relations
   pub source_names : AllPairs (λ a b. a.name ≢ b.name) sources
   pub target_names : AllPairs (λ a b. a.name ≢ b.name) targets
   pub sides : All (λ s. All (λ t. s.name ≢ t.name) targets) sources
 
--- at most 256 tgds and 256 egds, no two rules of one name
+-- tgds and egds, no two rules of one name
 pub record AreRules (rules : RuleSet) : Type 0 where
   pub tgds : All (IsTgd rules.sources rules.targets) rules.tgds
   pub egds : All (IsEgd rules.targets) rules.egds
-  pub most_tgds : length rules.tgds ≤ 256
-  pub most_egds : length rules.egds ≤ 256
-  pub tgd_names : AllPairs (λ a b. a.name ≢ b.name) rules.tgds
-  pub egd_names : AllPairs (λ a b. a.name ≢ b.name) rules.egds
-  pub kinds : All (λ t. All (λ e. t.name ≢ e.name) rules.egds) rules.tgds
+  pub most_tgds : length rules.tgds ≤ most_tgds
+  pub most_egds : length rules.egds ≤ most_egds
+  pub names : AreDistinct (rule_names rules)
 
--- at most 64 queries, no two of one name
+-- queries, no two of one name
 pub record AreQueries (targets : List Relation) (queries : List Query) : Type 0 where
   pub each : All (IsQuery targets) queries
-  pub most : length queries ≤ 64
+  pub most : length queries ≤ most_queries
   pub names : AllPairs (λ a b. a.name ≢ b.name) queries
 
 -- all that a mapping must meet

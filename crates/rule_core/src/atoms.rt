@@ -5,22 +5,23 @@ ghost use Rattle.rule_core.specs.Frontier.{Occurs};
 ghost use Rattle.rule_core.specs.Validity.{AreAtoms, AreNumbered, AreVariables, FitsRelation, IsWithin, occurrences};
 ghost use Rattle.rule_core.specs.declared.rules.Arg.TheVariants.{Var};
 
+use crate::limits::{MOST_ATOMS, MOST_VARIABLES};
 use crate::names::{are_distinct, are_names};
 use crate::{Arg, Atom, Relation};
 use term_core::Text;
 
-/// Whether these are 1 to 8 atoms over the relations.
+/// Whether these are some atoms over the relations, and not too many.
 pub fn are_atoms(relations: &[Relation], atoms: &[Atom]) -> bool
     ensures { IsTrue result ↔ AreAtoms relations.now atoms.now }
 {
-    1 <= atoms.len() && atoms.len() <= 8 && atoms.iter().all(|atom| fits(relations, atom))
+    1 <= atoms.len() && atoms.len() <= MOST_ATOMS && atoms.iter().all(|atom| fits(relations, atom))
 }
 
-/// Whether these are at most 32 variables with names of their own.
+/// Whether these are variables with names of their own, and not too many.
 pub fn are_variables(vars: &[Text]) -> bool
     ensures { IsTrue result ↔ AreVariables vars.now }
 {
-    vars.len() <= 32 && are_names(vars) && are_distinct(vars)
+    vars.len() <= MOST_VARIABLES && are_names(vars) && are_distinct(vars)
 }
 
 /// Whether the variables of atoms are numbered by first occurrence, and are as many.

@@ -1,19 +1,19 @@
 //! The relations, rules and queries of a mapping, which are valid at every moment.
 
 ghost use Rattle.std.specs.Prelude.{◌≡◌, ◌↔◌, ℕ, List, [], Contains, IsTrue, IfSome, IfNone, IfOk, OnOk, OnErr};
-ghost use Rattle.rule_core.specs.Adding.{with_relation, with_tgd, with_egd, with_query, IsNamedAt};
+ghost use Rattle.rule_core.specs.Adding.{with_relation, with_tgd, with_egd, with_query, IsNamedAt, IsNewRelationName, IsNewRuleName, IsNewQueryName};
 ghost use Rattle.rule_core.specs.Rebase.{IsRebased};
 ghost use Rattle.rule_core.specs.Validity.{IsValid};
 ghost use Rattle.rule_core.specs.declared.rules.Place.{Place as PlaceValue};
 
-use crate::dependencies::{is_new_egd, is_new_tgd};
-use crate::queries::is_new_query;
+use crate::dependencies::{is_new_egd, is_new_egd_name, is_new_tgd, is_new_tgd_name};
+use crate::queries::{is_new_query, is_new_query_name};
 use crate::rebase::{numbers, rebased_egds, rebased_queries, rebased_tgds, same_relations};
-use crate::relations::{is_new_relation, place_of};
+use crate::relations::{is_new_name, is_new_relation, place_of};
 use crate::{Egd, Place, Query, Relation, Tgd};
 use std::alloc::Global;
 use std::marker::Model;
-use term_core::{Items, Memory, Pool};
+use term_core::{Items, Memory, Pool, Text};
 
 /// A mapping's relations, rules and queries, each kind in the order in which it was added. They are valid.
 #[derive(Debug, Drop)]
@@ -107,11 +107,33 @@ impl Rules {
         }
     }
 
+    /// Whether no relation of either side has the name.
+    pub fn is_new_relation_name(&self, name: &Text) -> bool
+        ensures { IsTrue result ↔ IsNewRelationName self.now name.now }
+    {
+        is_new_name(self.sources.as_slice(), name) && is_new_name(self.targets.as_slice(), name)
+    }
+
+    /// Whether no rule of any kind has the name.
+    pub fn is_new_rule_name(&self, name: &Text) -> bool
+        ensures { IsTrue result ↔ IsNewRuleName self.now name.now }
+    {
+        is_new_tgd_name(self.tgds.as_slice(), name) && is_new_egd_name(self.egds.as_slice(), name)
+    }
+
+    /// Whether no query has the name.
+    pub fn is_new_query_name(&self, name: &Text) -> bool
+        ensures { IsTrue result ↔ IsNewQueryName self.now name.now }
+    {
+        is_new_query_name(self.queries.as_slice(), name)
+    }
+
     /// Whether the mapping stays valid with this relation as the last of its side.
     pub fn fits_relation(&self, place: Place, relation: &Relation) -> bool
         ensures { IsTrue result ↔ IsValid (with_relation self.now place relation.now) }
     {
-        is_new_relation(self.sources.as_slice(), self.targets.as_slice(), relation)
+        self.is_kept();
+        is_new_relation(self, relation)
     }
 
     /// Adds a relation as the last of its side. On an error nothing is added.
@@ -130,15 +152,8 @@ impl Rules {
     pub fn fits_tgd(&self, tgd: &Tgd) -> bool
         ensures { IsTrue result ↔ IsValid (with_tgd self.now tgd.now) }
     {
-        let sources = self.sources.as_slice();
-        let targets = self.targets.as_slice();
-        is_new_tgd(
-            sources,
-            targets,
-            self.tgds.as_slice(),
-            self.egds.as_slice(),
-            tgd,
-        )
+        self.is_kept();
+        is_new_tgd(self, tgd)
     }
 
     /// Adds a tgd as the last. On an error nothing is added.
@@ -154,8 +169,8 @@ impl Rules {
     pub fn fits_egd(&self, egd: &Egd) -> bool
         ensures { IsTrue result ↔ IsValid (with_egd self.now egd.now) }
     {
-        let targets = self.targets.as_slice();
-        is_new_egd(targets, self.tgds.as_slice(), self.egds.as_slice(), egd)
+        self.is_kept();
+        is_new_egd(self, egd)
     }
 
     /// Adds an egd as the last. On an error nothing is added.
@@ -171,7 +186,8 @@ impl Rules {
     pub fn fits_query(&self, query: &Query) -> bool
         ensures { IsTrue result ↔ IsValid (with_query self.now query.now) }
     {
-        is_new_query(self.targets.as_slice(), self.queries.as_slice(), query)
+        self.is_kept();
+        is_new_query(self, query)
     }
 
     /// Adds a query as the last. On an error nothing is added.

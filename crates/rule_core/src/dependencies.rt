@@ -1,13 +1,14 @@
 //! Tests on tgds and egds, and the frontier of a tgd.
 
 ghost use Rattle.std.specs.Prelude.{◌≢◌, ◌↔◌, All, IsTrue, IfOk};
-ghost use Rattle.rule_core.specs.Adding.{IsNewRuleName, IsNewTgd, IsNewEgd};
+ghost use Rattle.rule_core.specs.Adding.{IsNewTgd, IsNewEgd};
 ghost use Rattle.rule_core.specs.Frontier.{IsFrontier};
 ghost use Rattle.rule_core.specs.Validity.{IsTgd, IsEgd};
 
 use crate::atoms::{are_atoms, are_numbered, are_variables, are_within, occurs};
+use crate::limits::{MOST_EGDS, MOST_TGDS};
 use crate::names::is_name;
-use crate::{Egd, Relation, Tgd};
+use crate::{Egd, Relation, Rules, Tgd};
 use std::alloc::Global;
 use term_core::{Items, Memory, Text};
 
@@ -24,27 +25,25 @@ pub fn frontier(alloc: Global, tgd: &Tgd) -> Result<Items<u32>, Memory>
     Ok(variables)
 }
 
-/// Whether a tgd may be added to these relations and rules.
-pub fn is_new_tgd(
-    sources: &[Relation],
-    targets: &[Relation],
-    tgds: &[Tgd],
-    egds: &[Egd],
-    tgd: &Tgd,
-) -> bool
-    ensures { IsTrue result ↔ IsNewTgd sources.now targets.now tgds.now egds.now tgd.now }
+/// Whether a tgd may be added to these rules.
+pub fn is_new_tgd(rules: &Rules, tgd: &Tgd) -> bool
+    ensures { IsTrue result ↔ IsNewTgd rules.now tgd.now }
 {
-    tgds.len() < 256 && is_tgd(sources, targets, tgd) && is_new_rule_name(tgds, egds, &tgd.name)
+    rules.tgds().len() < MOST_TGDS
+        && is_tgd(rules.sources().as_slice(), rules.targets().as_slice(), tgd)
+        && rules.is_new_rule_name(&tgd.name)
 }
 
-/// Whether an egd may be added to these relations and rules.
-pub fn is_new_egd(targets: &[Relation], tgds: &[Tgd], egds: &[Egd], egd: &Egd) -> bool
-    ensures { IsTrue result ↔ IsNewEgd targets.now tgds.now egds.now egd.now }
+/// Whether an egd may be added to these rules.
+pub fn is_new_egd(rules: &Rules, egd: &Egd) -> bool
+    ensures { IsTrue result ↔ IsNewEgd rules.now egd.now }
 {
-    egds.len() < 256 && is_egd(targets, egd) && is_new_rule_name(tgds, egds, &egd.name)
+    rules.egds().len() < MOST_EGDS
+        && is_egd(rules.targets().as_slice(), egd)
+        && rules.is_new_rule_name(&egd.name)
 }
 
-// Whether a tgd meets all tests but those on its place and the newness of its name.
+// Whether a tgd meets all tests but those on room and on the newness of its name.
 fn is_tgd(sources: &[Relation], targets: &[Relation], tgd: &Tgd) -> bool
     ensures { IsTrue result ↔ IsTgd sources.now targets.now tgd.now }
 {
@@ -57,7 +56,7 @@ fn is_tgd(sources: &[Relation], targets: &[Relation], tgd: &Tgd) -> bool
         && are_within(tgd.head.as_slice(), tgd.vars.len())
 }
 
-// Whether an egd meets all tests but those on its place and the newness of its name.
+// Whether an egd meets all tests but those on room and on the newness of its name.
 fn is_egd(targets: &[Relation], egd: &Egd) -> bool
     ensures { IsTrue result ↔ IsEgd targets.now egd.now }
 {
@@ -70,20 +69,15 @@ fn is_egd(targets: &[Relation], egd: &Egd) -> bool
         && (egd.right as usize) < vars.len()
 }
 
-// Whether no tgd and no egd has the name.
-fn is_new_rule_name(tgds: &[Tgd], egds: &[Egd], name: &Text) -> bool
-    ensures { IsTrue result ↔ IsNewRuleName tgds.now egds.now name.now }
-{
-    is_new_tgd_name(tgds, name) && is_new_egd_name(egds, name)
-}
-
-fn is_new_tgd_name(tgds: &[Tgd], name: &Text) -> bool
+/// Whether no tgd has the name.
+pub fn is_new_tgd_name(tgds: &[Tgd], name: &Text) -> bool
     ensures { IsTrue result ↔ All (λ t. t.name ≢ name.now) tgds.now }
 {
     tgds.iter().all(|tgd| tgd.name != *name)
 }
 
-fn is_new_egd_name(egds: &[Egd], name: &Text) -> bool
+/// Whether no egd has the name.
+pub fn is_new_egd_name(egds: &[Egd], name: &Text) -> bool
     ensures { IsTrue result ↔ All (λ e. e.name ≢ name.now) egds.now }
 {
     egds.iter().all(|egd| egd.name != *name)

@@ -4,6 +4,7 @@ ghost use Rattle.std.specs.Prelude.{◌≡◌, ◌≢◌, ◌↔◌, All, AllPai
 ghost use Rattle.rule_core.specs.Names.{IsLetter, IsNameByte, IsName};
 ghost use Rattle.rule_core.specs.Validity.{AreDistinct};
 
+use crate::limits::LONGEST_NAME;
 use term_core::Text;
 
 /// Whether a text may be a name.
@@ -13,7 +14,7 @@ pub fn is_name(text: &Text) -> bool
     let bytes = text.as_bytes();
     starts_with_letter(bytes)
         && are_name_bytes(bytes)
-        && bytes.len() <= 64
+        && bytes.len() <= LONGEST_NAME
         && bytes != b"exists".as_slice()
 }
 
@@ -60,13 +61,15 @@ fn are_name_bytes(bytes: &[u8]) -> bool
     bytes.iter().all(|byte| is_name_byte(*byte))
 }
 
-fn is_letter(byte: u8) -> bool
+/// Whether a byte is a letter.
+pub fn is_letter(byte: u8) -> bool
     ensures { IsTrue result ↔ IsLetter byte }
 {
     matches!(byte, b'A'..=b'Z' | b'a'..=b'z')
 }
 
-fn is_name_byte(byte: u8) -> bool
+/// Whether a byte may stand in a name.
+pub fn is_name_byte(byte: u8) -> bool
     ensures { IsTrue result ↔ IsNameByte byte }
 {
     is_letter(byte) || matches!(byte, b'0'..=b'9' | b'_')

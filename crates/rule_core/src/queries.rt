@@ -5,18 +5,21 @@ ghost use Rattle.rule_core.specs.Adding.{IsNewQuery};
 ghost use Rattle.rule_core.specs.Validity.{IsBranch, IsQuery};
 
 use crate::atoms::{are_atoms, are_numbered, are_variables};
+use crate::limits::{MOST_DISJUNCTS, MOST_HEAD_VARIABLES, MOST_QUERIES};
 use crate::names::{are_distinct, are_names, is_name};
-use crate::{Branch, Query, Relation};
+use crate::{Branch, Query, Relation, Rules};
 use term_core::Text;
 
-/// Whether a query may be added to these relations and queries.
-pub fn is_new_query(targets: &[Relation], queries: &[Query], query: &Query) -> bool
-    ensures { IsTrue result ↔ IsNewQuery targets.now queries.now query.now }
+/// Whether a query may be added to these queries.
+pub fn is_new_query(rules: &Rules, query: &Query) -> bool
+    ensures { IsTrue result ↔ IsNewQuery rules.now query.now }
 {
-    queries.len() < 64 && is_query(targets, query) && is_new_query_name(queries, &query.name)
+    rules.queries().len() < MOST_QUERIES
+        && is_query(rules.targets().as_slice(), query)
+        && rules.is_new_query_name(&query.name)
 }
 
-// Whether a query meets all tests but those on its place and the newness of its name.
+// Whether a query meets all tests but those on room and on the newness of its name.
 fn is_query(targets: &[Relation], query: &Query) -> bool
     ensures { IsTrue result ↔ IsQuery targets.now query.now }
 {
@@ -24,10 +27,10 @@ fn is_query(targets: &[Relation], query: &Query) -> bool
     let branches = query.branches.as_slice();
     is_name(&query.name)
         && are_names(head)
-        && head.len() <= 16
+        && head.len() <= MOST_HEAD_VARIABLES
         && are_distinct(head)
         && 1 <= branches.len()
-        && branches.len() <= 8
+        && branches.len() <= MOST_DISJUNCTS
         && branches
             .iter()
             .all(|branch| is_branch(targets, head, branch))
@@ -69,7 +72,8 @@ fn is_variable(vars: &[Text], variable: u32, name: &Text) -> bool
     }
 }
 
-fn is_new_query_name(queries: &[Query], name: &Text) -> bool
+/// Whether no query has the name.
+pub fn is_new_query_name(queries: &[Query], name: &Text) -> bool
     ensures { IsTrue result ↔ All (λ q. q.name ≢ name.now) queries.now }
 {
     queries.iter().all(|query| query.name != *name)

@@ -1,38 +1,38 @@
 //! Tests on relations.
 
-ghost use Rattle.std.specs.Prelude.{◌≡◌, ◌≢◌, ◌↔◌, ◌+◌, ◌≤◌, length, All, IsTrue, IsSomeAnd, IfSome, IfNone, slice_get};
+ghost use Rattle.std.specs.Prelude.{◌≡◌, ◌≢◌, ◌↔◌, All, IsTrue, IsSomeAnd, IfSome, IfNone, slice_get};
 ghost use Rattle.rule_core.specs.Validity.{IsRelation};
 ghost use Rattle.rule_core.specs.Adding.{IsNewRelation};
 
-use crate::Relation;
+use crate::limits::{MOST_COLUMNS, MOST_RELATIONS};
 use crate::names::{are_distinct, are_names, is_name};
+use crate::{Relation, Rules};
 use term_core::Text;
 
-/// Whether a relation has a name, and 1 to 16 columns with names of their own.
+/// Whether a relation has a name, and some columns with names of their own.
 pub fn is_relation(relation: &Relation) -> bool
     ensures { IsTrue result ↔ IsRelation relation.now }
 {
     let columns = relation.columns.as_slice();
     is_name(&relation.name)
         && 1 <= columns.len()
-        && columns.len() <= 16
+        && columns.len() <= MOST_COLUMNS
         && are_names(columns)
         && are_distinct(columns)
 }
 
 /// Whether a relation may be added to these.
-pub fn is_new_relation(sources: &[Relation], targets: &[Relation], relation: &Relation) -> bool
-    requires { length sources.now + length targets.now ≤ 64 }
-    ensures { IsTrue result ↔ IsNewRelation sources.now targets.now relation.now }
+pub fn is_new_relation(rules: &Rules, relation: &Relation) -> bool
+    ensures { IsTrue result ↔ IsNewRelation rules.now relation.now }
 {
-    sources.len() + targets.len() < 64
+    rules.is_kept();
+    rules.sources().len() + rules.targets().len() < MOST_RELATIONS
         && is_relation(relation)
-        && is_new_name(sources, &relation.name)
-        && is_new_name(targets, &relation.name)
+        && rules.is_new_relation_name(&relation.name)
 }
 
-// Whether no relation has the name.
-fn is_new_name(relations: &[Relation], name: &Text) -> bool
+/// Whether no relation has the name.
+pub fn is_new_name(relations: &[Relation], name: &Text) -> bool
     ensures { IsTrue result ↔ All (λ r. r.name ≢ name.now) relations.now }
 {
     relations.iter().all(|relation| relation.name != *name)

@@ -1,17 +1,8 @@
-use Rattle.std.proofs.Common.{subst}
-use Rattle.std.specs.Prelude.{◌↔◌, IsTrue}
-use Rattle.rule_core.specs.Mapping.{RuleSet, rules_of}
-use Rattle.rule_core.specs.Validity.{IsValid}
-use Rattle.rule_core.specs.Adding.{with_relation}
 use Rattle.rule_core.proofs.ValidityLemmas.{with_relation-valid, new_relation}
 use Rattle.rule_core.proofs.checked.Rules.fits_relation.Goals as goal
 
 pub returns : goal.returns
-returns c =
-    let here = c.self.inside in
-    let m : RuleSet = rules_of here.sources here.targets here.tgds here.egds here.queries in
-    let e = rw (c.as_slice.ensures, c.as_slice-2.ensures) at c.is_new_relation.ensures in
-    subst (λ (r : RuleSet). IsTrue c.is_new_relation.result ↔ IsValid (with_relation r c.args.place c.args.relation.now)) c.self.view_is (
-      λ t. with_relation-valid m c.args.place c.args.relation.now c.self.invariant (e.0 t),
-      λ v. e.1 (new_relation m c.args.place c.args.relation.now v),
-    )
+returns c = (
+  λ t. with_relation-valid c.args.self.now c.args.place c.args.relation.now c.is_kept.ensures (c.is_new_relation.ensures.0 t),
+  λ v. c.is_new_relation.ensures.1 (new_relation c.args.self.now c.args.place c.args.relation.now v),
+)
