@@ -104,3 +104,16 @@ module _ {A B N : Type 0} (f : A → N) (g : B → N) (as_ : List A) (bs : List 
     ),
     λ new. All-append (λ x. x ≢ n) (map f as_) (map g bs) (All-map (λ x. x ≢ n) f as_ new.0) (All-map (λ x. x ≢ n) g bs new.1),
   )
+
+  -- the first of both kinds have no two equal names either
+  pub front-distinct : (more : List A) (others : List B) → NoTwo (names_of_both (as_ ++ more) (bs ++ others)) → NoTwo (names_of_both as_ bs)
+  front-distinct more others pairs =
+      let all = map g bs ++ map g others in
+      let split : names_of_both (as_ ++ more) (bs ++ others) ≡ map f as_ ++ (map f more ++ all) =
+      (λ i. map-append f as_ more i ++ map-append g bs others i) ∙ append_assoc (map f as_) (map f more) all in
+      let first = AllPairs-without (λ a b. a ≢ b) (map f as_) (map f more) all (subst (NoTwo {X = N}) split pairs) in
+      let both = names_of_both as_ bs in
+      let joined : map f as_ ++ all ≡ both ++ (map g others ++ []) =
+      sym (append_assoc (map f as_) (map g bs) (map g others)) ∙ ap (λ l. both ++ l) (sym (append-nil (map g others))) in
+      subst (NoTwo {X = N}) (append-nil both)
+      (AllPairs-without (λ a b. a ≢ b) both (map g others) [] (subst (NoTwo {X = N}) joined first))

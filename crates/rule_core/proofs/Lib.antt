@@ -6,6 +6,8 @@ pub mod OrderLemmas
 pub mod HomomorphismLemmas
 pub mod SetLemmas
 pub mod ToldLemmas
+pub mod AnswerLemmas
+pub mod EqualSideLemmas
 pub mod RowOrderLemmas
 pub mod ValidityLemmas
 pub mod RebaseLemmas

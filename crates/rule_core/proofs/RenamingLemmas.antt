@@ -1,6 +1,6 @@
 -- A one-to-one renaming is a line of types from the one kind of constants to the other. Over it lies all that is made of constants and
 -- said of them, so that what holds at the one end holds at the other.
-use Rattle.std.proofs.Common.{◌≡◌, ℕ, List, [], ◌∷◌, map, Contains}
+use Rattle.std.proofs.Common.{◌≡◌, ℕ, ℤ, Bool, true, false, cond, List, [], ◌∷◌, map, filter, refl, ap, Contains}
 use Rattle.std.specs.Prelude.{◌↔◌}
 use mathlib.Core.Path.{PathP}
 use mathlib.Core.Equiv.{iso_to_equiv}
@@ -8,12 +8,15 @@ use Rattle.term_core.specs.declared.const_id.ConstId.{ConstId}
 use Rattle.rule_core.specs.declared.rules.Atom.{Atom}
 use Rattle.rule_core.specs.declared.rules.Tgd.{Tgd}
 use Rattle.rule_core.specs.declared.rules.Egd.{Egd}
-use Rattle.rule_core.specs.Terms.{Unknown, numbered, named, TermOf, constant, unknown, FactOf}
+use Rattle.rule_core.specs.Terms.{Unknown, numbered, named, TermOf, constant, unknown, FactOf, StampedOf}
+use Rattle.rule_core.specs.declared.rules.Query.{Query}
 use Rattle.rule_core.specs.Mapping.{RuleSet}
+use Rattle.rule_core.specs.Snapshot.{has, snapshot_at}
+use Rattle.rule_core.specs.Answers.{IsAnswer, IsCertain}
 use Rattle.rule_core.specs.Match.{Matches}
 use Rattle.rule_core.specs.Homomorphism.{Homomorphism}
-use Rattle.rule_core.specs.Solution.{TgdHolds, EgdHolds, IsSolution, IsUniversal}
-use Rattle.rule_core.specs.Renaming.{Renaming, renamed_unknown, renamed_term, renamed_fact, renamed_facts}
+use Rattle.rule_core.specs.Solution.{TgdHolds, EgdHolds, IsSolution, IsSolvable, IsUniversal, HasSolution}
+use Rattle.rule_core.specs.Renaming.{Renaming, renamed_unknown, renamed_term, renamed_fact, renamed_facts, renamed_stamped}
 
 -- what holds at one end of a line of statements holds at the other
 both_ends : {A B : Type 0} → A ≡ B → A ↔ B
@@ -51,6 +54,25 @@ module _ {C D : Type 0} (r : Renaming C D) where
   over_facts [] = λ i. []
   over_facts (fact ∷ facts) = λ i. over_fact fact i ∷ over_facts facts i
 
+  over_stamped : (stamped : List (StampedOf (FactOf C)))
+      → PathP (λ i. List (StampedOf (FactOf (Between i)))) stamped (renamed_stamped r.to stamped)
+  over_stamped [] = λ i. []
+  over_stamped (e ∷ stamped) = λ i. record { row = over_fact e.row i; span = e.span } ∷ over_stamped stamped i
+
+  -- the snapshot of a renamed source is the renamed snapshot
+  pub same_snapshots : (stamped : List (StampedOf (FactOf C))) (t : ℤ)
+      → snapshot_at (renamed_stamped r.to stamped) t ≡ renamed_facts r.to (snapshot_at stamped t)
+  same_snapshots [] t = refl
+  same_snapshots (e ∷ stamped) t = by (has e.span t) (same_snapshots stamped t)
+    where
+      by : (here : Bool) → snapshot_at (renamed_stamped r.to stamped) t ≡ renamed_facts r.to (snapshot_at stamped t)
+          → map (λ (e : StampedOf (FactOf D)). e.row) (cond here (record { row = renamed_fact r.to e.row; span = e.span }
+          ∷ filter (λ e. has e.span t) (renamed_stamped r.to stamped)) (filter (λ e. has e.span t) (renamed_stamped r.to stamped)))
+          ≡ renamed_facts r.to (map (λ (e : StampedOf (FactOf C)). e.row)
+          (cond here (e ∷ filter (λ e. has e.span t) stamped) (filter (λ e. has e.span t) stamped)))
+      by true same = ap (λ rest. renamed_fact r.to e.row ∷ rest) same
+      by false same = same
+
   -- homomorphisms are kept
   pub same_maps : (a b : List (FactOf C)) → Homomorphism (Contains a) b
       ↔ Homomorphism (Contains (renamed_facts r.to a)) (renamed_facts r.to b)
@@ -86,3 +108,23 @@ module _ {C D : Type 0} (r : Renaming C D) where
     pub same_universal : (rules : RuleSet) (source target : List (FactOf C)) → IsUniversal name rules source target
         ↔ IsUniversal (λ c. r.to (name c)) rules (renamed_facts r.to source) (renamed_facts r.to target)
     same_universal rules source target = both_ends (λ i. IsUniversal (over_name i) rules (over_facts source i) (over_facts target i))
+
+    -- there is a solution of the one where there is one of the other
+    pub same_solvable : (rules : RuleSet) (source : List (FactOf C)) → IsSolvable name rules source
+        ↔ IsSolvable (λ c. r.to (name c)) rules (renamed_facts r.to source)
+    same_solvable rules source = both_ends (λ i. IsSolvable (over_name i) rules (over_facts source i))
+
+    pub same_has_solution : (rules : RuleSet) (source : List (StampedOf (FactOf C))) → HasSolution name rules source
+        ↔ HasSolution (λ c. r.to (name c)) rules (renamed_stamped r.to source)
+    same_has_solution rules source = both_ends (λ i. HasSolution (over_name i) rules (over_stamped source i))
+
+    -- answers are kept, and what is certain
+    pub same_answers : (query : Query) (instance : List (FactOf C)) (terms : List (TermOf C)) → IsAnswer name query instance terms
+        ↔ IsAnswer (λ c. r.to (name c)) query (renamed_facts r.to instance) (map (renamed_term r.to) terms)
+    same_answers query instance terms = both_ends (λ i. IsAnswer (over_name i) query (over_facts instance i) (over_terms terms i))
+
+    pub same_certain : (rules : RuleSet) (query : Query) (source : List (FactOf C)) (constants : List C)
+        → IsCertain name rules query source constants
+        ↔ IsCertain (λ c. r.to (name c)) rules query (renamed_facts r.to source) (map r.to constants)
+    same_certain rules query source constants =
+        both_ends (λ i. IsCertain (over_name i) rules query (over_facts source i) (over_constants constants i))

@@ -7,13 +7,16 @@ use Rattle.rule_core.specs.declared.rules.Arg.TheVariants.{Var, Const}
 use Rattle.rule_core.specs.declared.rules.Atom.{Atom}
 use Rattle.rule_core.specs.declared.rules.Egd.{Egd}
 use Rattle.rule_core.specs.declared.rules.Tgd.{Tgd}
+use Rattle.rule_core.specs.declared.rules.Branch.{Branch}
+use Rattle.rule_core.specs.declared.rules.Query.{Query}
 use Rattle.rule_core.specs.Terms.{TermOf, constant, FactOf}
 use Rattle.rule_core.specs.Mapping.{RuleSet}
 use Rattle.rule_core.specs.Match.{value, image, Matches}
-use Rattle.rule_core.specs.Solution.{TgdHolds, EgdHolds, IsSolution, IsUniversal}
-use Rattle.rule_core.specs.Rebase.{renumbered_arg, renumbered_atom, renumbered_tgd, renumbered_egd, renumbered}
-use Rattle.rule_core.specs.Renaming.{HaveConstant, IsRuleConstant}
-use Rattle.rule_core.proofs.ListLemmas.{Contains-head, Contains-cons, All-from_map, All-members}
+use Rattle.rule_core.specs.Solution.{TgdHolds, EgdHolds, IsSolution, IsSolvable, IsUniversal}
+use Rattle.rule_core.specs.Answers.{IsBranchAnswer, IsAnswer, IsCertain}
+use Rattle.rule_core.specs.Rebase.{renumbered_arg, renumbered_atom, renumbered_tgd, renumbered_egd, renumbered_branch, renumbered_query, renumbered}
+use Rattle.rule_core.specs.Renaming.{HaveConstant, IsRuleConstant, IsQueryConstant}
+use Rattle.rule_core.proofs.ListLemmas.{Contains-head, Contains-cons, Contains-map, Contains-from_map, All-from_map, All-members}
 
 module _ {C : Type 0} (name other : ConstId → C) (number : ConstId → ConstId) where
   -- the other number stands for the same
@@ -116,4 +119,60 @@ module _ {C : Type 0} (name other : ConstId → C) (number : ConstId → ConstId
       solution = solution_renumbered rules kept source target universal.solution;
       maps = λ any solution. universal.maps any (solution_before rules kept source any solution);
     },
+  )
+
+  -- the same solutions, and there is one of either or of none
+  pub solutions_renumbered : (rules : RuleSet) → ((c : ConstId) → IsRuleConstant rules c → other (number c) ≡ name c)
+      → (source target : List (FactOf C)) → IsSolution other (renumbered number rules) source target ↔ IsSolution name rules source target
+  solutions_renumbered rules kept source target = (solution_before rules kept source target, solution_renumbered rules kept source target)
+
+  pub solvable_renumbered : (rules : RuleSet) → ((c : ConstId) → IsRuleConstant rules c → other (number c) ≡ name c)
+      → (source : List (FactOf C)) → IsSolvable other (renumbered number rules) source ↔ IsSolvable name rules source
+  solvable_renumbered rules kept source = (
+    λ s. (s.0, solution_before rules kept source s.0 s.1),
+    λ s. (s.0, solution_renumbered rules kept source s.0 s.1),
+  )
+
+  -- the same answers
+  module _ (query : Query) (kept : (c : ConstId) → IsQueryConstant query c → other (number c) ≡ name c) (instance : List (FactOf C))
+      (terms : List (TermOf C)) where
+    branch_kept : (branch : Branch) → Contains query.branches branch → (c : ConstId) → HaveConstant branch.body c → IsKept c
+    branch_kept branch there c h = kept c (there.0, branch, there.1, there.2, h)
+
+    answer_renumbered : IsAnswer name query instance terms → IsAnswer other (renumbered_query number query) instance terms
+    answer_renumbered a =
+        let is = branch_kept a.1 (a.0, a.2, a.3) in
+        let there = Contains-map (renumbered_branch number) query.branches a.1 (a.0, a.2, a.3) in (
+          there.0,
+          renumbered_branch number a.1,
+          there.1,
+          there.2,
+          (a.4.0, matches_renumbered a.1.body is a.4.0 instance a.4.1, a.4.2),
+        )
+
+    answer_before : IsAnswer other (renumbered_query number query) instance terms → IsAnswer name query instance terms
+    answer_before a =
+        let from = Contains-from_map (renumbered_branch number) query.branches a.1 (a.0, a.2, a.3) in
+        let found : IsBranchAnswer other (renumbered_branch number from.0) instance terms =
+        subst (λ (b : Branch). IsBranchAnswer other b instance terms) (sym from.2) a.4 in (
+          from.1.0,
+          from.0,
+          from.1.1,
+          from.1.2,
+          (found.0, matches_before from.0.body (branch_kept from.0 from.1) found.0 instance found.1, found.2),
+        )
+
+    pub answers_renumbered : IsAnswer other (renumbered_query number query) instance terms ↔ IsAnswer name query instance terms
+    answers_renumbered = (answer_before, answer_renumbered)
+
+  -- the same is certain
+  pub certain_renumbered : (rules : RuleSet) (query : Query) → ((c : ConstId) → IsRuleConstant rules c → other (number c) ≡ name c)
+      → ((c : ConstId) → IsQueryConstant query c → other (number c) ≡ name c) → (source : List (FactOf C)) (constants : List C)
+      → IsCertain other (renumbered number rules) (renumbered_query number query) source constants
+      ↔ IsCertain name rules query source constants
+  certain_renumbered rules query kept asked source constants = (
+    λ certain target solution.
+        answer_before query asked target (map constant constants) (certain target (solution_renumbered rules kept source target solution)),
+    λ certain target solution.
+        answer_renumbered query asked target (map constant constants) (certain target (solution_before rules kept source target solution)),
   )

@@ -5,10 +5,12 @@ use Rattle.term_core.specs.declared.const_id.ConstId.{ConstId}
 use Rattle.rule_core.specs.declared.rules.Atom.{Atom}
 use Rattle.rule_core.specs.declared.rules.Egd.{Egd}
 use Rattle.rule_core.specs.declared.rules.Tgd.{Tgd}
+use Rattle.rule_core.specs.declared.rules.Query.{Query}
 use Rattle.rule_core.specs.Terms.{TermOf, FactOf}
 use Rattle.rule_core.specs.Mapping.{RuleSet}
 use Rattle.rule_core.specs.Match.{image, Matches}
-use Rattle.rule_core.specs.Solution.{TgdHolds, EgdHolds, IsSolution, IsUniversal}
+use Rattle.rule_core.specs.Solution.{TgdHolds, EgdHolds, IsSolution, IsSolvable, IsUniversal}
+use Rattle.rule_core.specs.Answers.{IsAnswer, IsCertain}
 use Rattle.rule_core.specs.Renaming.{HoldTheSame}
 
 module _ {C : Type 0} (name : ConstId → C) where
@@ -44,3 +46,20 @@ module _ {C : Type 0} (name : ConstId → C) where
         let map = universal.maps any back in
         record { of_unknown = map.of_unknown; into = λ fact c. map.into fact ((t fact).1 c) };
   }
+
+  -- there is a solution for the other source too
+  pub solvable_same_sets : (rules : RuleSet) (source other : List (FactOf C)) → HoldTheSame source other
+      → IsSolvable name rules source → IsSolvable name rules other
+  solvable_same_sets rules source other s solvable =
+      (solvable.0, solution_same_sets source other solvable.0 solvable.0 s (λ fact. (λ c. c, λ c. c)) rules solvable.1)
+
+  -- answers stay, and what is certain
+  pub answer_same_sets : (query : Query) (instance other : List (FactOf C)) (terms : List (TermOf C)) → HoldTheSame instance other
+      → IsAnswer name query instance terms → IsAnswer name query other terms
+  answer_same_sets query instance other terms s a =
+      (a.0, a.1, a.2, a.3, (a.4.0, Matches-within a.4.0 a.1.body instance other (λ fact. (s fact).0) a.4.1, a.4.2))
+
+  pub certain_same_sets : (rules : RuleSet) (query : Query) (source other : List (FactOf C)) (constants : List C)
+      → HoldTheSame source other → IsCertain name rules query source constants → IsCertain name rules query other constants
+  certain_same_sets rules query source other constants s certain target solution =
+      certain target (solution_same_sets other source target target (λ fact. ((s fact).1, (s fact).0)) (λ fact. (λ c. c, λ c. c)) rules solution)

@@ -1,5 +1,5 @@
 -- Unknowns that are told otherwise, and stay apart.
-use Rattle.std.proofs.Common.{◌≡◌, ℕ, ◌<◌, List, [], ◌∷◌, map, refl, sym, ap, ◌∙◌, subst, Contains}
+use Rattle.std.proofs.Common.{◌≡◌, ◌↔◌, ℕ, ◌<◌, List, [], ◌∷◌, map, refl, sym, ap, ◌∙◌, subst, Contains}
 use Rattle.std.proofs.lemmas.List.Elements.{All-weaker, All-contains}
 use Rattle.term_core.specs.declared.const_id.ConstId.{ConstId}
 use Rattle.rule_core.specs.declared.rules.Arg.{Arg}
@@ -83,8 +83,7 @@ module _ {C : Type 0} (told back : Unknown C → Unknown C) where
   term_stays (constant c) terms stays there = refl
   term_stays (unknown u) terms stays there = ap unknown (stays u there)
 
-  module _ (source target : List (FactOf C)) (apart : AreToldApart target told back)
-      (stays : (u : Unknown C) → HasUnknown source u → told u ≡ u) where
+  module _ (target : List (FactOf C)) (apart : AreToldApart target told back) where
     -- the target, with its unknowns told otherwise
     retold : List (FactOf C)
     retold = map (fact_image as_told) target
@@ -105,6 +104,10 @@ module _ {C : Type 0} (told back : Unknown C → Unknown C) where
         λ i. record { relation = from.0.relation; terms = terms_come_back from.0.terms (apart_in from.0 from.1) i } in
         subst (λ f. Contains target (fact_image as_before f)) from.2 (subst (λ f. Contains target f) (sym same) from.1)
 
+    pub comes_back : (fact : FactOf C) → Contains (map (fact_image as_told) target) fact → Contains target (fact_image as_before fact)
+    unfolding retold
+    comes_back fact c = fact_comes_back fact c
+
     -- its terms go back to what they are told of
     told_again : (fact : FactOf C) → Contains retold fact → (term : TermOf C) → Contains fact.terms term
         → term_image as_told (term_image as_before term) ≡ term
@@ -117,8 +120,45 @@ module _ {C : Type 0} (told back : Unknown C → Unknown C) where
         ∙ ap (term_image as_told) (term_comes_back was.0 from.0.terms (apart_in from.0 from.1) was.1)
         ∙ was.2
 
-    -- rules that hold of the target hold of it as it is told
+    -- matches go along and come back, and an egd holds where it held
     module _ (name : ConstId → C) where
+      pub matches_retold : (binding : ℕ → TermOf C) (atoms : List Atom) → Matches name binding atoms target
+          → Matches name (λ v. term_image as_told (binding v)) atoms (map (fact_image as_told) target)
+      unfolding retold
+      matches_retold binding atoms m = Matches-after name as_told binding atoms target retold fact_is_retold m
+
+      pub matches_come_back : (binding : ℕ → TermOf C) (atoms : List Atom) → Matches name binding atoms (map (fact_image as_told) target)
+          → Matches name (λ v. term_image as_before (binding v)) atoms target
+      unfolding retold
+      matches_come_back binding atoms m = Matches-after name as_before binding atoms retold target fact_comes_back m
+
+      egd_retold : (egd : Egd) → Occurs egd.body egd.left → Occurs egd.body egd.right → EgdHolds name egd target → EgdHolds name egd retold
+      egd_retold egd left right holds b m =
+          let before : Matches name (λ v. term_image as_before (b v)) egd.body target =
+          Matches-after name as_before b egd.body retold target fact_comes_back m in
+          let l = bound_term name b egd.body retold egd.left left m in
+          let r = bound_term name b egd.body retold egd.right right m in
+          sym (told_again l.0 l.1 (b egd.left) l.2)
+          ∙ ap (term_image as_told) (holds (λ v. term_image as_before (b v)) before)
+          ∙ told_again r.0 r.1 (b egd.right) r.2
+
+      egd_before : (egd : Egd) → Occurs egd.body egd.left → Occurs egd.body egd.right → EgdHolds name egd retold → EgdHolds name egd target
+      egd_before egd left right holds b m =
+          let told_match : Matches name (λ v. term_image as_told (b v)) egd.body retold =
+          Matches-after name as_told b egd.body target retold fact_is_retold m in
+          let l = bound_term name b egd.body target egd.left left m in
+          let r = bound_term name b egd.body target egd.right right m in
+          sym (term_comes_back (b egd.left) l.0.terms (apart_in l.0 l.1) l.2)
+          ∙ ap (term_image as_before) (holds (λ v. term_image as_told (b v)) told_match)
+          ∙ term_comes_back (b egd.right) r.0.terms (apart_in r.0 r.1) r.2
+
+      pub same_egd_retold : (egd : Egd) → Occurs egd.body egd.left → Occurs egd.body egd.right
+          → EgdHolds name egd target ↔ EgdHolds name egd (map (fact_image as_told) target)
+      unfolding retold
+      same_egd_retold egd left right = (egd_retold egd left right, egd_before egd left right)
+
+    -- rules that hold of the target hold of it as it is told, where the unknowns of the source stay
+    module _ (source : List (FactOf C)) (stays : (u : Unknown C) → HasUnknown source u → told u ≡ u) (name : ConstId → C) where
       tgd_retold : (tgd : Tgd) → ((v : ℕ) → v < tgd.body_vars → Occurs tgd.body v) → TgdHolds name tgd source target
           → TgdHolds name tgd source retold
       tgd_retold tgd occurs holds b m =
@@ -131,16 +171,6 @@ module _ {C : Type 0} (told back : Unknown C → Unknown C) where
             Matches-after name as_told found.0 tgd.head target retold fact_is_retold found.2,
           )
 
-      egd_retold : (egd : Egd) → Occurs egd.body egd.left → Occurs egd.body egd.right → EgdHolds name egd target → EgdHolds name egd retold
-      egd_retold egd left right holds b m =
-          let before : Matches name (λ v. term_image as_before (b v)) egd.body target =
-          Matches-after name as_before b egd.body retold target fact_comes_back m in
-          let l = bound_term name b egd.body retold egd.left left m in
-          let r = bound_term name b egd.body retold egd.right right m in
-          sym (told_again l.0 l.1 (b egd.left) l.2)
-          ∙ ap (term_image as_told) (holds (λ v. term_image as_before (b v)) before)
-          ∙ told_again r.0 r.1 (b egd.right) r.2
-
       solution_retold : (rules : RuleSet) → IsValid rules → IsSolution name rules source target → IsSolution name rules source retold
       solution_retold rules valid solution = record {
         tgds = All-members (λ tgd. TgdHolds name tgd source target) (λ tgd. TgdHolds name tgd source retold) rules.tgds
@@ -150,7 +180,7 @@ module _ {C : Type 0} (told back : Unknown C → Unknown C) where
         egds = All-members (λ egd. EgdHolds name egd target) (λ egd. EgdHolds name egd retold) rules.egds
             (λ egd there.
             let is = All-contains (IsEgd rules.targets) rules.egds egd valid.rules.egds there in
-            egd_retold egd (occurs_from egd.body egd.left ((is.body_vars.same egd.left).1 is.left))
+            egd_retold name egd (occurs_from egd.body egd.left ((is.body_vars.same egd.left).1 is.left))
             (occurs_from egd.body egd.right ((is.body_vars.same egd.right).1 is.right))) solution.egds;
       }
 

@@ -13,12 +13,12 @@ use Rattle.rule_core.specs.declared.rules.Egd.{Egd}
 use Rattle.rule_core.specs.declared.rules.Query.{Query}
 use Rattle.rule_core.specs.declared.rules.Relation.{Relation}
 use Rattle.rule_core.specs.declared.rules.Tgd.{Tgd}
-use Rattle.rule_core.specs.Mapping.{RuleSet}
-use Rattle.rule_core.specs.Validity.{IsRelation, FitsRelation, AreAtoms, IsTgd, IsEgd, IsBranch, IsQuery, IsValid}
+use Rattle.rule_core.specs.Mapping.{RuleSet, rule_names}
+use Rattle.rule_core.specs.Validity.{AreDistinct, IsRelation, FitsRelation, AreAtoms, IsTgd, IsEgd, IsBranch, IsQuery, IsValid}
 use Rattle.rule_core.specs.declared.rules.Place.{Place}
 use Rattle.rule_core.specs.declared.rules.Place.TheVariants.{Source, Target}
 use Rattle.rule_core.specs.Adding.{with_relation, with_tgd, with_egd, with_query, IsNewRuleName, IsNewRelation, IsNewTgd, IsNewEgd, IsNewQuery}
-use Rattle.rule_core.proofs.DistinctLemmas.{with_first-distinct, first_is_new, with_second-distinct, second_is_new, others_of_both}
+use Rattle.rule_core.proofs.DistinctLemmas.{with_first-distinct, first_is_new, with_second-distinct, second_is_new, others_of_both, front-distinct}
 
 module _ {X : Type 0} where
   -- the front and the last of a list with one more
@@ -202,6 +202,12 @@ egd_name egd = egd.name
 pub new_rule_name : (rules : RuleSet) (name : List ℕ)
     → IsNewRuleName rules name ↔ (All (λ t. t.name ≢ name) rules.tgds × All (λ e. e.name ≢ name) rules.egds)
 new_rule_name rules name = others_of_both tgd_name egd_name rules.tgds rules.egds name
+
+-- no two of the first rules of each kind have one name
+pub front_names : (rules : RuleSet) (tgds more : List Tgd) (egds others : List Egd)
+    → AreDistinct (rule_names (record rules { tgds = tgds ++ more; egds = egds ++ others }))
+    → AreDistinct (rule_names (record rules { tgds = tgds; egds = egds }))
+front_names rules tgds more egds others = front-distinct tgd_name egd_name tgds egds more others
 
 -- a mapping with one more tgd, egd or query is valid exactly where that is new
 module _ (rules : RuleSet) where

@@ -5,6 +5,7 @@ pub mod Snapshot
 pub mod Match
 pub mod Homomorphism
 pub mod Solution
+pub mod Answers
 pub mod Coalesced
 pub mod Tables
 pub mod Limits
@@ -16,3 +17,4 @@ pub mod Rebase
 pub mod Firing
 pub mod Values
 pub mod Renaming
+pub mod Laws

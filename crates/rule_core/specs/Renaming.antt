@@ -3,7 +3,8 @@ use Rattle.std.specs.Prelude.{◌≡◌, ◌⊎◌, ◌↔◌, List, map, Any, C
 use Rattle.term_core.specs.declared.const_id.ConstId.{ConstId}
 use Rattle.rule_core.specs.declared.rules.Arg.TheVariants.{Const}
 use Rattle.rule_core.specs.declared.rules.Atom.{Atom}
-use Rattle.rule_core.specs.Terms.{Unknown, numbered, named, TermOf, constant, unknown, FactOf}
+use Rattle.rule_core.specs.declared.rules.Query.{Query}
+use Rattle.rule_core.specs.Terms.{Unknown, numbered, named, TermOf, constant, unknown, FactOf, StampedOf}
 use Rattle.rule_core.specs.Mapping.{RuleSet}
 
 -- a one-to-one renaming of all constants of one kind to all of another
@@ -32,6 +33,10 @@ module _ {C D : Type 0} (to : C → D) where
   abbrev pub renamed_facts : List (FactOf C) → List (FactOf D)
   renamed_facts facts = map renamed_fact facts
 
+  -- the facts of a stamped source, each over its span
+  abbrev pub renamed_stamped : List (StampedOf (FactOf C)) → List (StampedOf (FactOf D))
+  renamed_stamped stamped = map (λ e. record { row = renamed_fact e.row; span = e.span }) stamped
+
 -- the two instances hold the same facts
 abbrev pub HoldTheSame : {C : Type 0} → List (FactOf C) → List (FactOf C) → Type 0
 HoldTheSame {C} a b = (fact : FactOf C) → Contains a fact ↔ Contains b fact
@@ -44,6 +49,10 @@ HaveConstant atoms c = Any (λ atom. Contains atom.args (Const c)) atoms
 abbrev pub IsRuleConstant : RuleSet → ConstId → Type 0
 IsRuleConstant rules c =
     Any (λ tgd. HaveConstant tgd.body c ⊎ HaveConstant tgd.head c) rules.tgds ⊎ Any (λ egd. HaveConstant egd.body c) rules.egds
+
+-- the constant is an argument in a query
+abbrev pub IsQueryConstant : Query → ConstId → Type 0
+IsQueryConstant query c = Any (λ branch. HaveConstant branch.body c) query.branches
 
 -- the unknown is a term of a fact
 abbrev pub HasUnknown : {C : Type 0} → List (FactOf C) → Unknown C → Type 0

@@ -28,6 +28,10 @@ module _ {C : Type 0} (name : ConstId → C) where
     pub tgds : All (λ tgd. TgdHolds tgd source target) rules.tgds
     pub egds : All (λ egd. EgdHolds egd target) rules.egds
 
+  -- some instance is a solution
+  abbrev pub IsSolvable : RuleSet → List (FactOf C) → Type 0
+  IsSolvable rules source = (target : List (FactOf C)) × IsSolution rules source target
+
   -- a solution that maps into every solution, over all constants and unknowns that there are
   pub record IsUniversal (rules : RuleSet) (source target : List (FactOf C)) : Type 0 where
     pub solution : IsSolution rules source target
@@ -35,4 +39,4 @@ module _ {C : Type 0} (name : ConstId → C) where
 
   -- every instant of a stamped source has a solution
   abbrev pub HasSolution : RuleSet → List (StampedOf (FactOf C)) → Type 0
-  HasSolution rules source = (t : ℤ) → (target : List (FactOf C)) × IsSolution rules (snapshot_at source t) target
+  HasSolution rules source = (t : ℤ) → IsSolvable rules (snapshot_at source t)

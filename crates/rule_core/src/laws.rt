@@ -11,6 +11,7 @@ ghost use Rattle.term_core.specs.Pool.{IsPool};
 ghost use Rattle.rule_core.specs.declared.rules.Atom.{Atom};
 ghost use Rattle.rule_core.specs.declared.rules.Tgd.{Tgd};
 ghost use Rattle.rule_core.specs.declared.rules.Egd.{Egd};
+ghost use Rattle.rule_core.specs.declared.rules.Query.{Query};
 ghost use Rattle.rule_core.specs.Frontier.{IsFrontier};
 ghost use Rattle.rule_core.specs.Firing.{frontier_of};
 ghost use Rattle.rule_core.specs.Validity.{IsValid};
@@ -20,10 +21,12 @@ ghost use Rattle.rule_core.specs.Mapping.{RuleSet};
 ghost use Rattle.rule_core.specs.Snapshot.{snapshot_at};
 ghost use Rattle.rule_core.specs.Match.{Matches};
 ghost use Rattle.rule_core.specs.Homomorphism.{Homomorphism, fact_image};
-ghost use Rattle.rule_core.specs.Solution.{TgdHolds, EgdHolds, IsSolution, IsUniversal};
+ghost use Rattle.rule_core.specs.Solution.{TgdHolds, EgdHolds, IsSolution, IsSolvable, IsUniversal, HasSolution};
+ghost use Rattle.rule_core.specs.Answers.{IsAnswer, IsCertain};
+ghost use Rattle.rule_core.specs.Laws.{CertainIsAnswered, MatchesAreRetold, EgdsAreRetold, AnswersAreRetold, ImagesStay, ImagesCompose, MapsCompose, ReplacingKeepsMaps, ClashesHaveNoMap};
 ghost use Rattle.rule_core.specs.Coalesced.{Covers, IsCoalesced};
-ghost use Rattle.rule_core.specs.Rebase.{renumbered};
-ghost use Rattle.rule_core.specs.Renaming.{Renaming, renamed_term, renamed_facts, HoldTheSame, IsRuleConstant, HasUnknown, AreToldApart};
+ghost use Rattle.rule_core.specs.Rebase.{renumbered, renumbered_query};
+ghost use Rattle.rule_core.specs.Renaming.{Renaming, renamed_term, renamed_facts, renamed_stamped, HoldTheSame, IsRuleConstant, IsQueryConstant, HasUnknown, AreToldApart};
 
 /// A fact is in a snapshot exactly where a stamped fact of it has a span with the instant.
 pub fn snapshots_hold_what_is_covered()
@@ -73,8 +76,8 @@ pub fn a_tgd_has_one_frontier()
     ensures only { (tgd : Tgd) (variables : List ℕ) → IsFrontier tgd variables → variables ≡ frontier_of tgd }
 {}
 
-/// A one-to-one renaming of all constants keeps matches, rules that hold, solutions, homomorphisms and universal
-/// instances. So the numbers of constants may stand for their texts.
+/// A one-to-one renaming of all constants keeps matches, rules that hold, homomorphisms, solutions and whether there is one,
+/// universal instances, answers, and what is certain. So the numbers of constants may stand for their texts.
 pub fn a_renaming_keeps_what_holds()
     ensures matches { (r : Renaming ConstId (List ℕ)) (name : ConstId → ConstId)
         → (binding : ℕ → TermOf ConstId) (atoms : List Atom) (instance : List (FactOf ConstId))
@@ -92,9 +95,24 @@ pub fn a_renaming_keeps_what_holds()
     ensures solution { (r : Renaming ConstId (List ℕ)) (name : ConstId → ConstId) (rules : RuleSet)
         → (source target : List (FactOf ConstId)) → IsSolution name rules source target
         ↔ IsSolution (λ c. r.to (name c)) rules (renamed_facts r.to source) (renamed_facts r.to target) }
+    ensures solvable { (r : Renaming ConstId (List ℕ)) (name : ConstId → ConstId) (rules : RuleSet)
+        → (source : List (FactOf ConstId)) → IsSolvable name rules source
+        ↔ IsSolvable (λ c. r.to (name c)) rules (renamed_facts r.to source) }
+    ensures has_solution { (r : Renaming ConstId (List ℕ)) (name : ConstId → ConstId) (rules : RuleSet)
+        → (source : List (StampedOf (FactOf ConstId))) → HasSolution name rules source
+        ↔ HasSolution (λ c. r.to (name c)) rules (renamed_stamped r.to source) }
     ensures universal { (r : Renaming ConstId (List ℕ)) (name : ConstId → ConstId) (rules : RuleSet)
         → (source target : List (FactOf ConstId)) → IsUniversal name rules source target
         ↔ IsUniversal (λ c. r.to (name c)) rules (renamed_facts r.to source) (renamed_facts r.to target) }
+    ensures answer { (r : Renaming ConstId (List ℕ)) (name : ConstId → ConstId) (query : Query)
+        → (instance : List (FactOf ConstId)) (terms : List (TermOf ConstId)) → IsAnswer name query instance terms
+        ↔ IsAnswer (λ c. r.to (name c)) query (renamed_facts r.to instance) (map (renamed_term r.to) terms) }
+    ensures certain { (r : Renaming ConstId (List ℕ)) (name : ConstId → ConstId) (rules : RuleSet)
+        → (query : Query) (source : List (FactOf ConstId)) (constants : List ConstId)
+        → IsCertain name rules query source constants
+        ↔ IsCertain (λ c. r.to (name c)) rules query (renamed_facts r.to source) (map r.to constants) }
+    ensures snapshots { (r : Renaming ConstId (List ℕ)) (source : List (StampedOf (FactOf ConstId))) (t : ℤ)
+        → snapshot_at (renamed_stamped r.to source) t ≡ renamed_facts r.to (snapshot_at source t) }
 {}
 
 /// Some renaming of all numbers to all texts takes the number of each text of a pool to this text. Numbers past the pool
@@ -112,24 +130,83 @@ pub fn instances_are_read_as_sets()
     ensures universal { (name : ConstId → List ℕ) (rules : RuleSet)
         → (source other target result : List (FactOf (List ℕ))) → HoldTheSame source other
         → HoldTheSame target result → IsUniversal name rules source target → IsUniversal name rules other result }
+    ensures solvable { (name : ConstId → List ℕ) (rules : RuleSet) (source other : List (FactOf (List ℕ)))
+        → HoldTheSame source other → IsSolvable name rules source → IsSolvable name rules other }
+    ensures answer { (name : ConstId → List ℕ) (query : Query) (instance other : List (FactOf (List ℕ)))
+        → (terms : List (TermOf (List ℕ))) → HoldTheSame instance other
+        → IsAnswer name query instance terms → IsAnswer name query other terms }
+    ensures certain { (name : ConstId → List ℕ) (rules : RuleSet) (query : Query)
+        → (source other : List (FactOf (List ℕ))) (constants : List (List ℕ)) → HoldTheSame source other
+        → IsCertain name rules query source constants → IsCertain name rules query other constants }
 {}
 
-/// Rules whose constants have other numbers say the same, where each number stands for the text of the one before.
+/// Rules and queries whose constants have other numbers say the same, where each number stands for the text of the
+/// one before.
 pub fn renumbered_rules_say_the_same()
-    ensures { (name other : ConstId → List ℕ) (number : ConstId → ConstId) (rules : RuleSet)
+    ensures solution { (name other : ConstId → List ℕ) (number : ConstId → ConstId) (rules : RuleSet)
+        → ((c : ConstId) → IsRuleConstant rules c → other (number c) ≡ name c)
+        → (source target : List (FactOf (List ℕ))) → IsSolution other (renumbered number rules) source target
+        ↔ IsSolution name rules source target }
+    ensures solvable { (name other : ConstId → List ℕ) (number : ConstId → ConstId) (rules : RuleSet)
+        → ((c : ConstId) → IsRuleConstant rules c → other (number c) ≡ name c)
+        → (source : List (FactOf (List ℕ))) → IsSolvable other (renumbered number rules) source
+        ↔ IsSolvable name rules source }
+    ensures universal { (name other : ConstId → List ℕ) (number : ConstId → ConstId) (rules : RuleSet)
         → ((c : ConstId) → IsRuleConstant rules c → other (number c) ≡ name c)
         → (source target : List (FactOf (List ℕ))) → IsUniversal other (renumbered number rules) source target
         ↔ IsUniversal name rules source target }
+    ensures answer { (name other : ConstId → List ℕ) (number : ConstId → ConstId) (query : Query)
+        → ((c : ConstId) → IsQueryConstant query c → other (number c) ≡ name c)
+        → (instance : List (FactOf (List ℕ))) (terms : List (TermOf (List ℕ)))
+        → IsAnswer other (renumbered_query number query) instance terms ↔ IsAnswer name query instance terms }
+    ensures certain { (name other : ConstId → List ℕ) (number : ConstId → ConstId) (rules : RuleSet) (query : Query)
+        → ((c : ConstId) → IsRuleConstant rules c → other (number c) ≡ name c)
+        → ((c : ConstId) → IsQueryConstant query c → other (number c) ≡ name c)
+        → (source : List (FactOf (List ℕ))) (constants : List (List ℕ))
+        → IsCertain other (renumbered number rules) (renumbered_query number query) source constants
+        ↔ IsCertain name rules query source constants }
+{}
+
+/// Where an instance is universal, a list of constants is certain exactly when it is an answer there. So one target gives
+/// all certain answers.
+pub fn what_is_certain_is_answered_on_a_universal_instance()
+    ensures numbers { CertainIsAnswered ConstId }
+    ensures texts { CertainIsAnswered (List ℕ) }
 {}
 
 /// The unknowns of a universal instance may be told otherwise, as by numbers, if they stay apart. One that is in the
-/// source too stays as it is.
+/// source too stays as it is. Whatever the constants are, matches go along, and the same egds hold.
 pub fn unknowns_may_be_told_otherwise()
-    ensures { (name : ConstId → List ℕ) (rules : RuleSet) → IsValid rules
+    ensures universal { (name : ConstId → List ℕ) (rules : RuleSet) → IsValid rules
         → (source target : List (FactOf (List ℕ))) (told back : Unknown (List ℕ) → Unknown (List ℕ))
         → AreToldApart target told back → ((u : Unknown (List ℕ)) → HasUnknown source u → told u ≡ u)
         → IsUniversal name rules source target
         → IsUniversal name rules source (map (fact_image (λ u. unknown (told u))) target) }
+    ensures number_matches { MatchesAreRetold ConstId }
+    ensures text_matches { MatchesAreRetold (List ℕ) }
+    ensures number_egds { EgdsAreRetold ConstId }
+    ensures text_egds { EgdsAreRetold (List ℕ) }
+    ensures number_answers { AnswersAreRetold ConstId }
+    ensures text_answers { AnswersAreRetold (List ℕ) }
+{}
+
+/// The map that leaves each unknown as it is leaves each fact, and two maps after each other are one.
+pub fn maps_of_unknowns_compose()
+    ensures number_identity { ImagesStay ConstId }
+    ensures text_identity { ImagesStay (List ℕ) }
+    ensures number_images { ImagesCompose ConstId }
+    ensures text_images { ImagesCompose (List ℕ) }
+    ensures number_maps { MapsCompose ConstId }
+    ensures text_maps { MapsCompose (List ℕ) }
+{}
+
+/// What a step of equalities rests on. Where a match of an egd makes an unknown equal to a term, the term may replace it:
+/// each homomorphism into an instance in which the egd holds stays one. Two different constants end all homomorphisms.
+pub fn equal_sides_may_be_replaced()
+    ensures numbers { ReplacingKeepsMaps ConstId }
+    ensures texts { ReplacingKeepsMaps (List ℕ) }
+    ensures number_clashes { ClashesHaveNoMap ConstId }
+    ensures text_clashes { ClashesHaveNoMap (List ℕ) }
 {}
 
 /// A coalesced list stays coalesced where its rows become others in the same order.
