@@ -1,22 +1,21 @@
 -- Texts in the order of their bytes, and the strings that they are read from.
-use Rattle.std.proofs.Common.{◌≡◌, ◌||◌, ℕ, ◌+◌, ◌<◌, ◌⊎◌, ◌↔◌, inl, inr, ⊎_elim, false, true≢false, if◌then◌else◌, List, [], ◌∷◌, ◌++◌, map, length, get_or, slice_get, Some, Contains, AllPairs, HoldsAt, Decides, IsPermutation, IsSorted, refl, sym, ap, subst, ◌∙◌, arith}
+use Rattle.std.proofs.Common.{◌≡◌, ◌||◌, ℕ, ◌<◌, ◌⊎◌, ◌↔◌, inl, inr, ⊎_elim, Bool, true, false, true≢false, if◌then◌else◌, List, [], ◌∷◌, ◌++◌, map, length, get_or, slice_get, Some, Contains, AllPairs, Decides, IsPermutation, IsSorted, append_assoc, append-nil, refl, sym, ap, subst, ◌∙◌, arith}
 use Rattle.std.specs.declared.cmp.Ordering.{Ordering}
 use Rattle.std.specs.declared.cmp.Ordering.TheVariants.{Less, Equal, Greater}
-use Rattle.std.specs.Ordering.{nat_cmp, is_lt, is_eq, ordering_reverse, ordering_index}
+use Rattle.std.specs.Ordering.{nat_cmp, is_lt, is_eq, ordering_reverse}
 use Rattle.std.specs.Cmp.Lexicographic.{slice_cmp, texts_ties, bytes_decides}
-use Rattle.std.specs.FinMap.{nat_cmp-IsAntisymmetric, slice_cmp-IsAntisymmetric}
-use Rattle.std.specs.List.{list_any, IsDistinct}
-use Rattle.std.specs.List.Sorted.{IsNonDecreasingBy, IsPartitionPoint}
+use Rattle.std.specs.List.{list_any, position, AllByRecursion, IsDistinct}
 use Rattle.std.specs.Str.{bytes_eq}
 use Rattle.std.proofs.lemmas.Bool.{cases_lt, cases_eq}
 use Rattle.std.proofs.lemmas.Cmp.{nat_list_cmp_total, tied_itself, ranked}
 use Rattle.std.proofs.lemmas.List.{get_or-map, length-map}
+use Rattle.std.proofs.lemmas.List.Quantifiers.{position-Some}
 use Rattle.std.proofs.lemmas.List.Elements.{Contains-append_left, Contains-push, Contains-push_cases}
-use Rattle.std.proofs.lemmas.List.Sorted.{sorted_far, ranks_by, searchable_from_sorted, IsPermutation-map, IsPermutation-sym, Contains-permutation}
-use Rattle.std.proofs.lemmas.Map.Keys.{apart_from_distinct}
+use Rattle.std.proofs.lemmas.List.Sorted.{sorted_far, ranks_by, IsPermutation-map, IsPermutation-sym, Contains-permutation}
+use Rattle.std.proofs.lemmas.Map.Keys.{apart_from_distinct, IsDistinct-head, IsDistinct-tail}
 use Rattle.std.proofs.lemmas.Map.Made.{is_member-Decides}
 use Rattle.std.proofs.lemmas.Option.{get_or_from_slice_get, slice_get_within, slice_get-get_or}
-use Rattle.indexmap.specs.IndexSet.{insert_key}
+use Rattle.indexmap.specs.IndexSet.{insert_key, insert_all}
 use Rattle.term_core.specs.Pool.{IsBefore}
 
 -- no text stands before itself
@@ -132,41 +131,54 @@ module _ {X : Type 0} (bytes : X → List ℕ) where
       (sorted_far _ (ranks_by nat_list_cmp_total bytes) keys sorted i j x (omega arith) inside)
       (apart_from_distinct _ keys i j x apart lt inside)
 
-  -- a search that ends at a string with the text has found the text's place
-  pub found_at : (keys : List X) (q : List ℕ) (i : ℕ) → i < length keys → HoldsAt (λ k. slice_cmp nat_cmp (bytes k) q ≡ Equal) keys i
-      → slice_get (map bytes keys) i ≡ Some q
-  found_at [] q i lt h = absurd (omega arith)
-  found_at (x ∷ xs) q i lt h =
+  -- the first string with the text has the text's place
+  pub found_at : (keys : List X) (q : List ℕ) (i : ℕ) → position (λ k. bytes_eq q (bytes k)) keys ≡ Some i → slice_get (map bytes keys) i ≡ Some q
+  found_at [] q i e = absurd cc
+  found_at (x ∷ xs) q i e =
       let keys = x ∷ xs in
-      let e : bytes (get_or keys i x) ≡ q = slice_cmp-IsAntisymmetric nat_cmp-IsAntisymmetric (bytes (get_or keys i x)) q (h x) in
-      slice_get-get_or (map bytes keys) i q (omega (arith, length-map keys bytes)) ∙ ap Some (get_or-map bytes keys i x q lt ∙ e)
+      let p = position-Some (λ k. bytes_eq q (bytes k)) keys i x e in
+      let same : q ≡ bytes (get_or keys i x) = (bytes_decides q (bytes (get_or keys i x))).0 p.1 in
+      slice_get-get_or (map bytes keys) i q (omega (arith, p.0, length-map keys bytes)) ∙ ap Some (get_or-map bytes keys i x q p.0 ∙ sym same)
 
-  module _ (keys : List X) (up : AllPairs IsBefore (map bytes keys)) (q : List ℕ) where
-    -- the comparisons with a text rise along the strings, as a binary search asks
-    comparisons_rise : IsNonDecreasingBy (λ k. ordering_index (slice_cmp nat_cmp (bytes k) q)) keys
-    comparisons_rise = searchable_from_sorted nat_list_cmp_total bytes keys q (λ k d from inside.
-        let a : get_or (map bytes keys) k (bytes d) ≡ bytes (get_or keys k d) = get_or-map bytes keys k d (bytes d) (omega arith) in
-        let b : get_or (map bytes keys) (k + 1) (bytes d) ≡ bytes (get_or keys (k + 1) d) = get_or-map bytes keys (k + 1) d (bytes d) inside in
-        let e : slice_cmp nat_cmp (get_or (map bytes keys) k (bytes d)) (get_or (map bytes keys) (k + 1) (bytes d))
-        ≡ slice_cmp nat_cmp (bytes (get_or keys k d)) (bytes (get_or keys (k + 1) d)) = λ i. slice_cmp nat_cmp (a i) (b i) in
-        let less : IsBefore (bytes (get_or keys k d)) (bytes (get_or keys (k + 1) d)) =
-        sym e ∙ up k (k + 1) (bytes d) (omega arith) (omega (arith, inside, length-map keys bytes)) in
-        ap is_lt (nat_list_cmp_total.antisymm (bytes (get_or keys (k + 1) d)) (bytes (get_or keys k d)) ∙ ap ordering_reverse less))
+-- a test of a list with one item more
+list_any-push : {X : Type 0} (p : X → Bool) (xs : List X) (y : X) → list_any p xs ≡ false → p y ≡ false → list_any p (xs ++ y ∷ []) ≡ false
+list_any-push p [] y a b = ap (λ v. v || false) b
+list_any-push p (x ∷ xs) y a b = or_push (p x) (list_any p xs) (list_any p (xs ++ y ∷ [])) a (λ none. list_any-push p xs y none b)
+  where
+    or_push : (u v w : Bool) → (u || v) ≡ false → (v ≡ false → w ≡ false) → (u || w) ≡ false
+    or_push true v w e f = e
+    or_push false v w e f = f e
 
-    -- a search that ends in a gap has shown that the text isn't there
-    pub not_there : (i : ℕ) → (IsNonDecreasingBy (λ k. ordering_index (slice_cmp nat_cmp (bytes k) q)) keys
-        → IsPartitionPoint (λ k. slice_cmp nat_cmp (bytes k) q ≡ Less) (λ k. slice_cmp nat_cmp (bytes k) q ≡ Greater) keys i)
-        → Contains (map bytes keys) q → ⊥
-    not_there i parted h = at keys refl
-      where
-        at : (all : List X) → keys ≡ all → ⊥
-        at [] none = let e : length keys ≡ 0 = ap length none in absurd (omega (arith, e, h.1, length-map keys bytes))
-        at (x ∷ xs) some =
-            let inside : h.0 < length keys = omega (arith, h.1, length-map keys bytes) in
-            let e : bytes (get_or keys h.0 x) ≡ q = sym (get_or-map bytes keys h.0 x q inside) ∙ h.2 in
-            let tied : slice_cmp nat_cmp (bytes (get_or keys h.0 x)) q ≡ Equal =
-            ap (λ a. slice_cmp nat_cmp a q) e ∙ tied_itself nat_list_cmp_total q in
-            ⊎_elim
-            (λ low. let p = (parted comparisons_rise).0 h.0 x (omega arith) low in cc)
-            (λ high. let p = (parted comparisons_rise).1 h.0 x high inside in cc)
-            (cases_lt h.0 i)
+module _ {X : Type 0} (eq : X → X → Bool) (flips : (x y : X) → eq x y ≡ eq y x) where
+  -- items that none of a list is equal to still are so where one more, that is equal to none of them, stands in it
+  none_pushed : (done : List X) (x : X) (xs : List X) → AllByRecursion (λ y. list_any (eq y) done ≡ false) xs
+      → AllByRecursion (λ y. eq x y ≡ false) xs → AllByRecursion (λ y. list_any (eq y) (done ++ x ∷ []) ≡ false) xs
+  none_pushed done x [] a b = tt
+  none_pushed done x (y ∷ ys) a b = (list_any-push (eq y) done x a.0 (flips y x ∙ b.0), none_pushed done x ys a.1 b.1)
+
+  -- distinct items that are inserted in turn go last
+  inserted_after : (done xs : List X) → AllByRecursion (λ y. list_any (eq y) done ≡ false) xs → IsDistinct eq xs
+      → insert_all eq done xs ≡ done ++ xs
+  inserted_after done [] a d = sym (append-nil done)
+  inserted_after done (x ∷ xs) a d =
+      ap (λ b. insert_all eq (if b then done else done ++ x ∷ []) xs) a.0
+      ∙ inserted_after (done ++ x ∷ []) xs (none_pushed done x xs a.1 (IsDistinct-head eq x xs d)) (IsDistinct-tail eq x xs d)
+      ∙ append_assoc done (x ∷ []) xs
+
+  none_of_nothing : (xs : List X) → AllByRecursion (λ y. list_any (eq y) [] ≡ false) xs
+  none_of_nothing [] = tt
+  none_of_nothing (x ∷ xs) = (refl, none_of_nothing xs)
+
+  -- so a set that is made of distinct items has just these
+  pub inserted_distinct : (xs : List X) → IsDistinct eq xs → insert_all eq [] xs ≡ xs
+  inserted_distinct xs d = inserted_after [] xs (none_of_nothing xs) d
+
+-- the equality of texts goes both ways
+pub bytes_eq-flips : (a b : List ℕ) → bytes_eq a b ≡ bytes_eq b a
+bytes_eq-flips a b = by (bytes_eq a b) (bytes_eq b a) (bytes_decides a b) (bytes_decides b a)
+  where
+    by : (u v : Bool) → Decides u (a ≡ b) → Decides v (b ≡ a) → u ≡ v
+    by true true d e = refl
+    by true false d e = sym (e.1 (sym (d.0 refl)))
+    by false true d e = d.1 (sym (e.0 refl))
+    by false false d e = refl

@@ -1,6 +1,6 @@
 //! A list that contracts see as its items.
 
-ghost use Rattle.std.specs.Prelude.{◌≡◌, [], ◌∷◌, ◌++◌, ◌<◌, ◌↔◌, length, slice_get, IsTrue, OnOk, OnErr, OnSome};
+ghost use Rattle.std.specs.Prelude.{◌≡◌, [], ◌∷◌, ◌++◌, ◌<◌, ◌↔◌, length, slice_get, IsTrue, IfOk, OnOk, OnErr, OnSome};
 ghost use Rattle.std.specs.Option.{option_copied};
 
 use crate::Memory;
@@ -103,6 +103,17 @@ impl<T: Drop> Items<T> {
             Ok(()) => Ok(()),
             Err(_) => Err(Memory),
         }
+    }
+}
+
+impl<T: Copy> Items<T> {
+    /// The same items in memory of their own, which comes from `alloc`.
+    pub fn copy(&self, alloc: Global) -> Result<Items<T>, Memory>
+        ensures { IfOk result (λ copied. copied ≡ self.now) }
+    {
+        Ok(Items {
+            items: self.items.iter().copied().collect(alloc)?,
+        })
     }
 }
 

@@ -1,6 +1,8 @@
 //! The texts of all constants of a run, each with a number. Numbers are ordered as their texts.
 
 ghost use Rattle.std.specs.Prelude.{◌≡◌, ◌↔◌, ◌⊎◌, ◌+◌, ◌-◌, ◌^◌, ◌<◌, ◌≤◌, ℕ, List, [], Some, length, map, Contains, slice_get, string_bytes, vec_items, IfSome, IfOk, OnOk, OnErr, IsSome};
+ghost use Rattle.std.specs.List.{IsDistinct};
+ghost use Rattle.std.specs.Str.{bytes_eq};
 ghost use Rattle.term_core.specs.Pool.{IsPool};
 
 use crate::{ConstId, Memory};
@@ -67,34 +69,46 @@ impl PoolBuilder {
         ensures few { IfOk result (λ pool. length pool ≤ length self) }
     {
         let PoolBuilder { texts, alloc } = self;
-        let texts = in_order(texts, alloc)?;
+        let list = in_order(texts, alloc)?;
+        let texts = set_of(list, alloc)?;
         Ok(Pool { texts })
     }
 }
 
-// The texts of a set in the order of their bytes.
-fn in_order(mut texts: IndexSet<String>, alloc: Global) -> Result<Vec<String>, Memory>
+// The texts of a set in the order of their bytes. A list is sorted faster than a set.
+fn in_order(texts: IndexSet<String>, alloc: Global) -> Result<Vec<String>, Memory>
     requires { length texts.keys < 2 ^ 32 }
     ensures has { IfOk result (λ list. (t : List ℕ)
         → Contains (map (λ t. string_bytes t) list.items) t ↔ Contains (map (λ t. string_bytes t) texts.keys) t) }
     ensures pool { IfOk result (λ list. IsPool (map (λ t. string_bytes t) list.items)) }
+    ensures once { IfOk result (λ list. IsDistinct (λ a b. bytes_eq (string_bytes a) (string_bytes b)) list.items) }
     ensures few { IfOk result (λ list. length list.items ≤ length texts.keys) }
 {
-    texts.sort_unstable()?;
-    list_of(texts, alloc)
+    let mut list = list_of(texts, alloc)?;
+    list.sort_unstable();
+    Ok(list)
 }
 
 // The texts of a set in its order.
 fn list_of(texts: IndexSet<String>, alloc: Global) -> Result<Vec<String>, Memory>
-    ensures { IfOk result (λ list. list.items ≡ texts.keys) }
+    ensures all { IfOk result (λ list. list.items ≡ texts.keys) }
+    ensures once { IfOk result (λ list. IsDistinct (λ a b. bytes_eq (string_bytes a) (string_bytes b)) list.items) }
 {
     Ok(texts.into_iter().collect(alloc)?)
+}
+
+// The texts of a list, in which each stands once, as a set in its order.
+fn set_of(list: Vec<String>, alloc: Global) -> Result<IndexSet<String>, Memory>
+    requires { IsDistinct (λ a b. bytes_eq (string_bytes a) (string_bytes b)) list.items }
+    ensures { IfOk result (λ set. set.keys ≡ list.items) }
+{
+    Ok(list.into_iter().collect(alloc)?)
 }
 
 /// The texts of constants, in the order of their bytes, each once. The number of a text is its place.
 #[derive(Drop)]
 pub struct Pool {
-    texts: Vec<String>,
+    texts: IndexSet<String>,
 }
 
 impl Model for Pool {
@@ -103,9 +117,9 @@ impl Model for Pool {
 
     ghost Value = { List (List ℕ) };
 
-    ghost view = { λ p. map (λ t. string_bytes t) p.texts.items };
+    ghost view = { λ p. map (λ t. string_bytes t) p.texts.keys };
 
-    ghost invariant = { λ p. IsPool (map (λ t. string_bytes t) p.texts.items) };
+    ghost invariant = { λ p. IsPool (map (λ t. string_bytes t) p.texts.keys) };
 }
 
 impl Pool {
@@ -123,10 +137,8 @@ impl Pool {
         ensures there { IsSome result ↔ Contains self.now text.now }
         ensures within { IfSome result (λ id. id.0 < length self.now) }
     {
-        match self.texts.binary_search_by(|t| t.as_str().cmp(text)) {
-            Ok(at) => Some(ConstId(at as u32)),
-            Err(_) => None,
-        }
+        let place = self.texts.get_index_of(text)?;
+        Some(ConstId(place as u32))
     }
 
     /// The text of a number.
@@ -134,6 +146,6 @@ impl Pool {
         requires { id.0 < length self.now }
         ensures { slice_get self.now id.0 ≡ Some result.now }
     {
-        self.texts[id.0 as usize].as_str()
+        self.texts.as_slice()[id.0 as usize].as_str()
     }
 }

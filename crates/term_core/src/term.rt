@@ -1,6 +1,9 @@
 //! Terms: constants, and unknowns that tell where they came from.
 
-use crate::{ConstId, Items};
+ghost use Rattle.std.specs.Prelude.{◌≡◌, IfOk};
+
+use crate::{ConstId, Items, Memory};
+use std::alloc::Global;
 
 /// A value that is not known: the one that a rule wants for one of its `exists` variables, at given values of its
 /// frontier.
@@ -14,6 +17,19 @@ pub struct Unknown {
     pub var: u32,
 }
 
+impl Unknown {
+    /// The same unknown in memory of its own, which comes from `alloc`.
+    pub fn copy(&self, alloc: Global) -> Result<Unknown, Memory>
+        ensures { IfOk result (λ copied. copied ≡ self.now) }
+    {
+        Ok(Unknown {
+            rule: self.rule,
+            frontier: self.frontier.copy(alloc)?,
+            var: self.var,
+        })
+    }
+}
+
 /// A constant or an unknown. Constants stand before unknowns.
 #[derive(Debug, PartialEq, Eq, PartialOrd, Ord, Drop)]
 pub enum Term {
@@ -21,6 +37,18 @@ pub enum Term {
     Const(ConstId),
     /// An unknown.
     Null(Unknown),
+}
+
+impl Term {
+    /// The same term, in memory of its own where it is an unknown, which comes from `alloc`.
+    pub fn copy(&self, alloc: Global) -> Result<Term, Memory>
+        ensures { IfOk result (λ copied. copied ≡ self.now) }
+    {
+        match self {
+            Term::Const(id) => Ok(Term::Const(*id)),
+            Term::Null(unknown) => Ok(Term::Null(unknown.copy(alloc)?)),
+        }
+    }
 }
 
 /// A constant, or the place of a piece of an unknown.
