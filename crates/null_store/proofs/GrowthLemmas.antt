@@ -99,4 +99,4 @@ module _ (rows : List (Option SeenRow)) (pieces : List (Option PieceOf)) (names 
           (held_cases pieces more m a p)
 
       pub grown_is_store : IsStore grown
-      grown_is_store = record { live = grown_live; used = grown_used; apart = grown_apart }
+      grown_is_store = record { live = grown_live; used = grown_used; apart = grown_apart; distinct = ok.distinct }

@@ -7,3 +7,4 @@ pub mod PieceLemmas
 pub mod GrowthLemmas
 pub mod FiringLemmas
 pub mod SoundLemmas
+pub mod LawLemmas

@@ -1,5 +1,5 @@
 -- How a store changes.
-use Rattle.std.specs.Prelude.{◌≡◌, ℕ, ◌+◌, ◌-◌, ◌≤◌, List, [], ◌++◌, All, Contains, IsPermutation, IsSomeAnd, Some, length, flat_map, slice_get}
+use Rattle.std.specs.Prelude.{◌≡◌, ℕ, ◌+◌, ◌-◌, ◌≤◌, List, [], ◌∷◌, ◌++◌, All, Contains, IsPermutation, IsSomeAnd, Some, length, flat_map, slice_get}
 use Rattle.time_line.specs.Span.{Ends, Meet}
 use Rattle.term_core.specs.declared.const_id.ConstId.{ConstId}
 use Rattle.rule_core.specs.declared.rules.Tgd.{Tgd}
@@ -27,6 +27,11 @@ pub record HasRoom (store : Store) (more_rows more_cells more_pieces : ℕ) : Ty
 -- the name has this number
 abbrev pub IsNamedAt : Store → ℕ → ℕ → List ConstId → Type 0
 IsNamedAt store number rule frontier = slice_get store.names number ≡ Some (record { rule = rule; frontier = frontier })
+
+-- names stay where this one is among them, and else it alone is added last
+pub record AddsOnce (old new : List NameOf) (name : NameOf) : Type 0 where
+  pub there : Contains old name → new ≡ old
+  pub added : ¬ (Contains old name) → new ≡ old ++ name ∷ []
 
 -- rows, pieces and room are the same, and the names before are there with their numbers
 pub record KeepsAllButNames (old new : Store) : Type 0 where

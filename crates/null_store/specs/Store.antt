@@ -60,13 +60,18 @@ IsLiveOver store span (Piece p) = IsSomeAnd (piece_at store p) (λ piece. piece.
 abbrev pub HoldsPiece : Store → ℕ → Type 0
 HoldsPiece store piece = (number : ℕ) × IsSomeAnd (row_at store.rows number) (λ row. Contains row.cells (Piece piece))
 
--- what each store is: each piece in a row is live and has the row's span, each live piece is in a row, and live pieces of one
--- unknown have no instant in common
+-- each name has one number
+abbrev pub AreDistinct : List NameOf → Type 0
+AreDistinct names = (j k : ℕ) (name : NameOf) → slice_get names j ≡ Some name → slice_get names k ≡ Some name → j ≡ k
+
+-- what each store is: each piece in a row is live and has the row's span, each live piece is in a row, live pieces of one
+-- unknown have no instant in common, and names are distinct
 pub record IsStore (store : Store) : Type 0 where
   pub live : (number : ℕ) (row : SeenRow) → row_at store.rows number ≡ Some row → All (IsLiveOver store row.span) row.cells
   pub used : (number : ℕ) (piece : PieceOf) → piece_at store number ≡ Some piece → HoldsPiece store number
   pub apart : (m n : ℕ) (a b : PieceOf) → piece_at store m ≡ Some a → piece_at store n ≡ Some b → a.unknown ≡ b.unknown
       → m ≢ n → AreApart a.span b.span
+  pub distinct : AreDistinct store.names
 
 -- there is a live piece with the number
 abbrev pub IsLive : Store → ℕ → Type 0

@@ -13,8 +13,7 @@ ghost use Rattle.null_store.specs.declared.piece.NamedPiece.{NamedPiece};
 use crate::piece::NamedPiece;
 use crate::rows::RowList;
 use rule_core::{Arg, Atom, Tgd};
-use std::sync::ledger::Ledger;
-use term_core::{ConstId, Seen, Steps};
+use term_core::{ConstId, Seen};
 use time_line::Span;
 
 // The most variables that a tgd has.
@@ -22,14 +21,13 @@ const MOST_VARIABLES: usize = 32;
 
 /// Adds the rows that a tgd makes for these values of its frontier over the span, and their new
 /// pieces, in the spare room.
-pub fn fire<L: Ledger>(
+pub fn fire(
     tgd: &Tgd,
     frontier: &[ConstId],
     name: usize,
     span: Span,
     rows: &mut RowList,
     pieces: &mut Vec<NamedPiece>,
-    steps: &mut Steps<L>,
 )
     requires { IsReady tgd.now frontier.now rows.old
         (vec_capacity pieces.old - vec_len pieces.old) }
@@ -39,11 +37,10 @@ pub fn fire<L: Ledger>(
     ensures cell_room { rows.new.cell_room + head_cells tgd.now ≡ rows.old.cell_room }
     ensures piece_room { vec_capacity pieces.new ≡ vec_capacity pieces.old }
     ensures few { vec_len pieces.new ≤ vec_len pieces.old + exists_count tgd.now }
-    ensures steps { steps.old ≤ steps.new }
 {
     let mut values = frontier_values(tgd, frontier);
     add_pieces(tgd, name, span, &mut values, pieces);
-    add_rows(tgd.head.as_slice(), &values, span, rows, steps);
+    add_rows(tgd.head.as_slice(), &values, span, rows);
 }
 
 // The values of the frontier at their variables.
@@ -95,13 +92,7 @@ fn add_pieces(
 }
 
 // Adds the rows for the atoms of a head, in the spare room.
-fn add_rows<L: Ledger>(
-    head: &[Atom],
-    values: &[Seen; MOST_VARIABLES],
-    span: Span,
-    rows: &mut RowList,
-    steps: &mut Steps<L>,
-)
+fn add_rows(head: &[Atom], values: &[Seen; MOST_VARIABLES], span: Span, rows: &mut RowList)
     requires room { length head.now ≤ rows.old.room }
     requires cell_room { length (flat_map (λ atom. atom.args) head.now) ≤ rows.old.cell_room }
     requires within { All (λ atom. All (IsWithin MOST_VARIABLES) atom.args) head.now }
@@ -109,10 +100,8 @@ fn add_rows<L: Ledger>(
     ensures room { rows.new.room + length head.now ≡ rows.old.room }
     ensures cell_room { rows.new.cell_room + length (flat_map (λ atom. atom.args) head.now)
         ≡ rows.old.cell_room }
-    ensures steps { steps.old ≤ steps.new }
 {
     for atom in head {
-        steps.tick();
         rows.push_image(atom, values, span);
     }
 }

@@ -1,8 +1,9 @@
 //! The names of unknowns, and their numbers.
 
-ghost use Rattle.std.specs.Prelude.{◌≡◌, ◌<◌, ◌++◌, [], List, Some, IfOk, OnErr, length, slice_get};
+ghost use Rattle.std.specs.Prelude.{◌≡◌, ◌<◌, ◌++◌, [], List, Some, IfOk, OnOk, OnErr, length, slice_get};
+ghost use Rattle.null_store.specs.Changes.{AddsOnce};
 ghost use Rattle.null_store.specs.Layout.{name_of};
-ghost use Rattle.null_store.specs.Store.{NameOf};
+ghost use Rattle.null_store.specs.Store.{NameOf, AreDistinct};
 
 use indexmap::IndexSet;
 use std::alloc::Global;
@@ -61,7 +62,10 @@ impl Names {
     ) -> Result<usize, Memory>
         ensures ok { IfOk result (λ number.
             slice_get self.new number ≡ Some (record { rule = rule; frontier = frontier.now })) }
+        ensures once { OnOk result (AddsOnce self.old self.new
+            (record { rule = rule; frontier = frontier.now })) }
         ensures keeps { (more : List NameOf) × (self.new ≡ self.old ++ more) }
+        ensures distinct { AreDistinct self.old → AreDistinct self.new }
         ensures err { OnErr result (self.new ≡ self.old) }
     {
         let frontier = frontier.as_slice().to_vec(alloc)?;

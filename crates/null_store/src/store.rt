@@ -5,7 +5,7 @@ ghost use Rattle.std.specs.declared.cmp.Ordering.TheVariants.{Less};
 ghost use Rattle.term_core.specs.Order.{unknown_cmp};
 ghost use Rattle.fact_table.specs.Rows.{HasCell, cell_at};
 ghost use Rattle.null_store.specs.Store.{IsStore, IsLive, piece_at};
-ghost use Rattle.null_store.specs.Changes.{IsEmpty, HoldsSame, HasRoom, IsNamedAt, KeepsAllButNames, CanFire, IsFresh, AddsFiring};
+ghost use Rattle.null_store.specs.Changes.{IsEmpty, HoldsSame, HasRoom, IsNamedAt, AddsOnce, KeepsAllButNames, CanFire, IsFresh, AddsFiring};
 ghost use Rattle.null_store.specs.Layout.{name_of, unknown_in};
 
 use crate::firing::fire;
@@ -79,6 +79,8 @@ impl NullStore {
     /// where it is new.
     pub fn name(&mut self, rule: u32, frontier: &Items<ConstId>) -> Result<usize, Memory>
         ensures ok { IfOk result (λ number. IsNamedAt self.new number rule frontier.now) }
+        ensures once { OnOk result (AddsOnce self.old.names self.new.names
+            (record { rule = rule; frontier = frontier.now })) }
         ensures keeps { KeepsAllButNames self.old self.new }
         ensures err { OnErr result (self.new.names ≡ self.old.names) }
     {
@@ -86,26 +88,26 @@ impl NullStore {
     }
 
     /// Adds the rows of a firing: those of the head of the name's tgd over the span, with a new
-    /// piece for each `exists` variable that the head has.
+    /// piece for each `exists` variable that the head has. It takes no step.
     pub fn add_firing<L: Ledger>(
         &mut self,
         rules: &Rules,
         name: usize,
         span: Span,
-        steps: &mut Steps<L>,
+        _steps: &mut Steps<L>,
     )
         requires { IsSomeAnd (slice_get self.old.names name)
             (λ n. CanFire rules.now self.old n × IsFresh self.old n span) }
         ensures adds { IsSomeAnd (slice_get self.old.names name)
             (λ n. AddsFiring rules.now n span self.old self.new) }
-        ensures steps { steps.old ≤ steps.new }
+        ensures steps { _steps.new ≡ _steps.old }
     {
         rules.is_kept();
         let named = self.names.get(name);
         let tgd = &rules.tgds().as_slice()[named.rule as usize];
         let frontier = named.frontier.as_slice();
         let (rows, pieces) = (&mut self.rows, &mut self.pieces);
-        fire(tgd, frontier, name, span, rows, pieces, steps);
+        fire(tgd, frontier, name, span, rows, pieces);
     }
 
     /// The unknown of a live piece.

@@ -1,4 +1,5 @@
-use Rattle.std.proofs.Common.{map, refl, ◌∙◌}
+use Rattle.std.proofs.Common.{map, refl, ◌∙◌, subst}
+use Rattle.null_store.specs.Store.{AreDistinct}
 use Rattle.null_store.specs.Layout.{piece_of}
 use Rattle.null_store.proofs.StoreLemmas.{sound_names, pieces_stay}
 use Rattle.null_store.proofs.store.NullStore.name.Goals as goal
@@ -6,7 +7,9 @@ use Rattle.null_store.proofs.store.NullStore.name.Goals as goal
 pub invariant_of-self : goal.invariant_of-self
 invariant_of-self c =
     let names = c.number_of.ensures.keeps in
-    rw names.1 (sound_names c.self.inside.rows c.self.inside.pieces.items _ c.self.inside.names names.0 c.self.invariant)
+    let distinct = c.number_of.ensures.distinct c.self.invariant.store.distinct in
+    rw names.1 (sound_names c.self.inside.rows c.self.inside.pieces.items _ c.self.inside.names names.0
+    (subst AreDistinct names.1 distinct) c.self.invariant)
 
 pub returns-clause-keeps : goal.returns-clause-keeps
 returns-clause-keeps c =
