@@ -83,21 +83,21 @@ right_side egd binding = bound_to (terms_in binding) egd.right
 abbrev pub text_cmp : List ℕ → List ℕ → Ordering
 text_cmp = slice_cmp nat_cmp
 
+-- a tgd adds the images of its head
+abbrev pub with_head : (ConstId → List ℕ) → Tgd → List Bound → Instance → Instance
+with_head name tgd binding held = record {
+  facts = held.facts ++ map (image name (bound_to (terms_in binding))) tgd.head;
+  used = held.used ++ given_numbers tgd binding;
+}
+
+-- an egd replaces one unknown, in every fact
+abbrev pub EquatesSides : Egd → List Bound → Instance → Outcome → Type 0
+EquatesSides egd binding held outcome =
+    MatchOption (replacement_of text_cmp (left_side egd binding) (right_side egd binding))
+    (Stops K5 outcome)
+    (λ r. Goes (going (record held { facts = map (replaced_fact text_cmp r) held.facts })) outcome)
+
 module _ (name : ConstId → List ℕ) (rules : RuleSet) (source : List (FactOf (List ℕ))) where
-  -- a tgd adds the images of its head
-  abbrev pub with_head : Tgd → List Bound → Instance → Instance
-  with_head tgd binding held = record {
-    facts = held.facts ++ map (image name (bound_to (terms_in binding))) tgd.head;
-    used = held.used ++ given_numbers tgd binding;
-  }
-
-  -- an egd replaces one unknown, in every fact
-  abbrev pub EquatesSides : Egd → List Bound → Instance → Outcome → Type 0
-  EquatesSides egd binding held outcome =
-      MatchOption (replacement_of text_cmp (left_side egd binding) (right_side egd binding))
-      (Stops K5 outcome)
-      (λ r. Goes (going (record held { facts = map (replaced_fact text_cmp r) held.facts })) outcome)
-
   -- the tests of a step of each kind
   abbrev pub tgd_tests : Instance → TraceStep → Outcome → Type 0
   tgd_tests held step =
@@ -105,7 +105,7 @@ module _ (name : ConstId → List ℕ) (rules : RuleSet) (source : List (FactOf 
       Test (FitsTgd tgd step.binding) K2
       (Test (Matches name (bound_to (terms_in step.binding)) tgd.body source) K3
       (Test (AreNew held.used (given_numbers tgd step.binding)) K4
-      (Goes (going (with_head tgd step.binding held))))))
+      (Goes (going (with_head name tgd step.binding held))))))
 
   abbrev pub egd_tests : Instance → TraceStep → Outcome → Type 0
   egd_tests held step =

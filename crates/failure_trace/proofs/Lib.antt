@@ -1,0 +1,2 @@
+pub mod TraceTests
+mod TraceRows
