@@ -1,2 +1,3 @@
 pub mod TraceTests
+pub mod TraceOnce
 mod TraceRows

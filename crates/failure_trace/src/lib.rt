@@ -5,6 +5,7 @@
 mod fault;
 mod firing;
 mod journal;
+pub mod laws;
 mod trace;
 mod why;
 
