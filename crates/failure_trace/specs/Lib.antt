@@ -1,2 +1,6 @@
 pub mod Entries
 pub mod Firings
+pub mod Equating
+pub mod Trace
+pub mod TraceRun
+pub mod JournalRun

@@ -1,6 +1,16 @@
-//! What a run leaves to show how it came to its end. So far: firings, with the matches that support them.
+//! What a run leaves to show how it came to its end: firings with the matches that support them, the journal of a
+//! settling, and traces.
 #![tactic(auto)]
 
+mod fault;
 mod firing;
+mod journal;
+pub mod laws;
+mod trace;
+mod why;
 
+pub use fault::{TraceCode, TraceError, TraceFault};
 pub use firing::{Firing, Support};
+pub use journal::{CutNote, JournalStep};
+pub use trace::{Bound, StepKind, Trace, TraceStep, Value};
+pub use why::Why;

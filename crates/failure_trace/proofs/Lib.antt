@@ -1,0 +1,4 @@
+pub mod TraceTests
+pub mod TraceOnce
+mod TraceRows
+mod JournalRows

@@ -1,0 +1,25 @@
+//! Laws of the definitions: what a check of a trace comes to.
+
+ghost use Rattle.std.specs.Prelude.{◌≡◌, ◌⊎◌, ℕ, List};
+ghost use Rattle.term_core.specs.declared.const_id.ConstId.{ConstId};
+ghost use Rattle.rule_core.specs.Mapping.{RuleSet};
+ghost use Rattle.rule_core.specs.Terms.{FactOf, StampedOf};
+ghost use Rattle.rule_core.specs.Validity.{IsValid};
+ghost use Rattle.failure_trace.specs.declared.trace.Trace.{Trace as TraceValue};
+ghost use Rattle.failure_trace.specs.declared.why.Why.{Why as WhyValue};
+ghost use Rattle.failure_trace.specs.TraceRun.{IsAccepted, IsRefused};
+
+/// A trace is accepted, or it is refused by one part of the table at one step, and not both: so a checker has one
+/// answer for each trace.
+pub fn a_trace_is_accepted_or_has_one_first_failing_part()
+    ensures some { (name : ConstId → List ℕ) (rules : RuleSet) (source : List (StampedOf (FactOf (List ℕ))))
+        → (trace : TraceValue) → IsAccepted name rules source trace
+        ⊎ ((step : ℕ) × (why : WhyValue) × IsRefused name rules source trace step why) }
+    ensures one { (name : ConstId → List ℕ) (rules : RuleSet) (source : List (StampedOf (FactOf (List ℕ))))
+        → (trace : TraceValue) (step other : ℕ) (why reason : WhyValue) → IsValid rules
+        → IsRefused name rules source trace step why → IsRefused name rules source trace other reason
+        → (step ≡ other) × (why ≡ reason) }
+    ensures apart { (name : ConstId → List ℕ) (rules : RuleSet) (source : List (StampedOf (FactOf (List ℕ))))
+        → (trace : TraceValue) (step : ℕ) (why : WhyValue) → IsValid rules
+        → IsAccepted name rules source trace → ¬ (IsRefused name rules source trace step why) }
+{}
