@@ -1,5 +1,5 @@
 -- Rows and facts of a table as stamped facts over terms, and what a table holds at an instant.
-use Rattle.std.specs.Prelude.{ℤ, List, Option, map}
+use Rattle.std.specs.Prelude.{ℕ, ℤ, List, Option, map}
 use Rattle.std.specs.List.{filter_map}
 use Rattle.std.specs.Option.{option_map}
 use Rattle.term_core.specs.declared.const_id.ConstId.{ConstId}
@@ -23,9 +23,13 @@ fact_of row = record { row = record { relation = row.relation; terms = map seen_
 abbrev pub facts_of : List (Option SeenRow) → List (StampedOf (FactOf ConstId))
 facts_of rows = filter_map (option_map fact_of) rows
 
+-- the fact of a relation whose terms are these constants
+abbrev pub constants_fact : ℕ → List ConstId → FactOf ConstId
+constants_fact relation row = record { relation = relation; terms = map constant row }
+
 -- a fact of a table, with its constants as terms
 abbrev pub with_terms : Fact → StampedOf (FactOf ConstId)
-with_terms fact = record { row = record { relation = fact.relation; terms = map constant fact.row }; span = fact.span }
+with_terms fact = record { row = constants_fact fact.relation fact.row; span = fact.span }
 
 -- the facts of a table, stamped with their spans
 abbrev pub stamped_facts : List Fact → List (StampedOf (FactOf ConstId))
