@@ -4,7 +4,7 @@ use Rattle.std.specs.Prelude.{◌⊎◌, All, if◌then◌else◌}
 use Rattle.std.specs.List.{AllZip, AllByRecursion, flat_map, list_any}
 use Rattle.std.specs.Fmt.{decimal}
 use Rattle.std.proofs.lemmas.List.{append-nil}
-use Rattle.std.proofs.lemmas.List.Elements.{All-head, All-tail}
+use Rattle.std.proofs.lemmas.List.Elements.{All-head, All-map, All-tail}
 use Rattle.std.proofs.lemmas.List.Sums.{fold-append}
 use Rattle.std.proofs.lemmas.Bool.{cases_Bool, cases_lt, eq-eqb, eqb-true, ne_eqb}
 use Rattle.std.proofs.lemmas.Fmt.{decimal_by_steps}
@@ -14,11 +14,11 @@ use Rattle.csv.specs.Writing.{default_writer, field_text, fields_text, is_blank,
 use Rattle.csv.specs.declared.parser.State.TheVariants as st
 use Rattle.csv.proofs.RoundTrip.{read-write}
 use Rattle.time_line.specs.Span.{Ends, IsWithinLimit}
-use Rattle.time_line.specs.Numeral.{IsDigit, IsEnd, IsPositive, end_text, value_of}
+use Rattle.time_line.specs.Numeral.{IsDigit, IsEnd, IsMark, IsPositive, end_text, value_of}
 use Rattle.time_line.specs.declared.text.Side.{Side}
 use Rattle.time_line.specs.declared.text.Side.TheVariants.{Start, End}
 use Rattle.rule_core.specs.Terms.{StampedOf, TermOf, constant, unknown, numbered, named}
-use Rattle.temporal_csv.specs.Stored.{AreEnds, BeginsWithLetter, HasStorableEnds, IsAsWideAs, IsCell, IsDoubled, IsNumbered, IsRow, IsStorable, IsStorableRow, IsStored, StoredRow, bare_row, cell_text, end_texts, mark, record_of, stamped_row, stored_constant, table_text}
+use Rattle.temporal_csv.specs.Stored.{AreEnds, BeginsWithLetter, HasStorableEnds, IsAsWideAs, IsCell, IsDoubled, IsRow, IsStorable, IsStorableRow, HasRecords, IsStored, IsStoredBare, HasSpan, LacksSpan, StoredRow, bare_row, cell_text, end_texts, header_of, mark, record_of, stamped_row, stored_constant, table_text}
 use Rattle.temporal_csv.proofs.RecordsLemmas.{table-records}
 
 -- the cells of a row
@@ -161,7 +161,7 @@ module _ (ends : (side : Side) (end : Option ℤ) → IsWithinLimit end → IsEn
       )
 
   pub table-read : (header : List (List ℕ)) (rows : List StoredRow) → 0 < length header → All BeginsWithLetter header
-      → All (IsAsWideAs header) rows → All IsStorableRow rows → IsStored (table_text header rows) header rows
+      → All (IsAsWideAs header) rows → All IsStorableRow rows → HasRecords (table_text header rows) header rows
   table-read [] rows some letters widths storable = absurd (omega (arith, some))
   table-read (text ∷ texts) rows some letters widths storable =
       let records = map record_of rows in
@@ -258,7 +258,7 @@ last-two (x ∷ xs) (y ∷ ys) a b c d e =
     (cc (first, rest.0), rest.1, rest.2)
 
 -- a cell stands for one term
-not-both : (text : List ℕ) (n : ℕ) → IsDoubled text → IsNumbered text n → ⊥
+not-both : (text : List ℕ) (n : ℕ) → IsDoubled text → IsMark text n → ⊥
 not-both text n d h =
     let same : h.0 ≡ mark ∷ d.0 = cc (d.1, h.1) in
     let high = rw same at h.2 in
@@ -311,12 +311,12 @@ rows-one row_of one (r ∷ rs) (x ∷ xs) (y ∷ ys) h k =
     let rest = rows-one row_of one rs xs ys h.1 k.1 in
     cc (first, rest)
 
-pub header-one : (bytes : List ℕ) (c d : List (List ℕ)) (xs ys : List StoredRow) → IsStored bytes c xs → IsStored bytes d ys → c ≡ d
+pub header-one : (bytes : List ℕ) (c d : List (List ℕ)) (xs ys : List StoredRow) → HasRecords bytes c xs → HasRecords bytes d ys → c ≡ d
 header-one bytes c d xs ys h k = cc (table-records bytes _ _ h.read k.read)
 
 stored-rows : {X : Type 0} (row_of : X → StoredRow)
     → ((fields : List (List ℕ)) (x y : X) → IsRow fields (row_of x) → IsRow fields (row_of y) → x ≡ y)
-    → (bytes : List ℕ) (c d : List (List ℕ)) (xs ys : List X) → IsStored bytes c (map row_of xs) → IsStored bytes d (map row_of ys)
+    → (bytes : List ℕ) (c d : List (List ℕ)) (xs ys : List X) → HasRecords bytes c (map row_of xs) → HasRecords bytes d (map row_of ys)
     → xs ≡ ys
 stored-rows row_of one bytes c d xs ys h k =
     let records : h.records ≡ k.records = cc (table-records bytes _ _ h.read k.read) in
@@ -328,9 +328,9 @@ bare-one fields x y h k =
     let other : fields ≡ k.texts = k.parts ∙ ap (λ (e : List (List ℕ)). k.texts ++ e) k.span ∙ append-nil k.texts in
     cells-one k.texts x y (rw (sym own ∙ other) at h.cells) k.cells
 
-pub bare-rows : (bytes : List ℕ) (c d : List (List ℕ)) (xs ys : List Terms) → IsStored bytes c (map bare_row xs)
-    → IsStored bytes d (map bare_row ys) → xs ≡ ys
-bare-rows = stored-rows bare_row bare-one
+pub bare-rows : (bytes : List ℕ) (c d : List (List ℕ)) (xs ys : List Terms) → IsStoredBare bytes c (map bare_row xs)
+    → IsStoredBare bytes d (map bare_row ys) → xs ≡ ys
+bare-rows bytes c d xs ys h k = stored-rows bare_row bare-one bytes c d xs ys h.whole k.whole
 
 same-row : (xs ys : Terms) (a b c d : Option ℤ) → xs ≡ ys → a ≡ b → c ≡ d
     → let x : StampedOf Terms = record { row = xs; span = record { lo = a; hi = c } } in
@@ -355,4 +355,22 @@ module _ (one : (side : Side) (text : List ℕ) (a b : Option ℤ) → IsEnd sid
 
   pub stamped-rows : (bytes : List ℕ) (c d : List (List ℕ)) (xs ys : List (StampedOf Terms)) → IsStored bytes c (map stamped_row xs)
       → IsStored bytes d (map stamped_row ys) → xs ≡ ys
-  stamped-rows = stored-rows stamped_row stamped-one
+  stamped-rows bytes c d xs ys h k = stored-rows stamped_row stamped-one bytes c d xs ys h.whole k.whole
+
+-- rows over spans have spans, and other rows have none
+spans-stamped : (rows : List (StampedOf Terms)) → All HasSpan (map stamped_row rows)
+spans-stamped rows = All-map HasSpan stamped_row rows (λ i d within. refl)
+
+spans-bare : (rows : List Terms) → All LacksSpan (map bare_row rows)
+spans-bare rows = All-map LacksSpan bare_row rows (λ i d within. refl)
+
+-- the records of a table with spans, and of one without
+pub stored-stamped : (bytes : List ℕ) (header columns : List (List ℕ)) (rows : List StoredRow) (table : List (StampedOf Terms))
+    → HasRecords bytes header rows → header ≡ header_of columns → rows ≡ map stamped_row table
+    → IsStored bytes (header_of columns) (map stamped_row table)
+stored-stamped bytes header columns rows table h e f =
+    record { whole = rw (e, f) at h; columns = columns; header_is = refl; spans = spans-stamped table }
+
+pub stored-bare : (bytes : List ℕ) (header : List (List ℕ)) (rows : List StoredRow) (table : List Terms)
+    → HasRecords bytes header rows → rows ≡ map bare_row table → IsStoredBare bytes header (map bare_row table)
+stored-bare bytes header rows table h f = record { whole = rw f at h; spans = spans-bare table }

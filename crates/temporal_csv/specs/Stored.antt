@@ -1,11 +1,12 @@
 -- Stored tables: the text of a cell, the bytes of a file, and what stored bytes mean. A file is written by csv's
 -- default writer, and is read by its default reader with header handling off.
-use Rattle.std.specs.Prelude.{◌≡◌, ◌⊎◌, ◌==◌, ◌≤◌, ◌<◌, ◌^◌, if◌then◌else◌, ℕ, List, [], ◌∷◌, ◌++◌, length, codes, map, All, IsSomeAnd, slice_get, Option, Some, None, ⊤}
+use Rattle.std.specs.Prelude.{◌≡◌, ◌⊎◌, ◌==◌, ◌≤◌, ◌<◌, ◌^◌, if◌then◌else◌, ℕ, List, [], ◌∷◌, ◌++◌, length, codes, map, All, IsSome, IsSomeAnd, slice_get, Option, Some, None, ⊤}
 use Rattle.std.specs.List.{AllZip, flat_map}
 use Rattle.std.specs.Fmt.{decimal}
 use Rattle.csv.specs.Writing.{default_writer, row_text}
 use Rattle.time_line.specs.Span.{Ends, IsWithinLimit}
-use Rattle.time_line.specs.Numeral.{IsEnd, IsPositive, end_text, value_of}
+pub use Rattle.time_line.specs.Numeral.{mark}
+use Rattle.time_line.specs.Numeral.{IsEnd, IsMark, end_text}
 use Rattle.time_line.specs.declared.text.Side.TheVariants.{Start, End}
 use Rattle.rule_core.specs.Names.{IsLetter}
 use Rattle.rule_core.specs.Terms.{TermOf, constant, unknown, numbered, named, StampedOf}
@@ -27,10 +28,6 @@ bare_row terms = record { cells = terms; span = None }
 -- the header of a table with spans
 abbrev pub header_of : List (List ℕ) → List (List ℕ)
 header_of columns = columns ++ codes "start" ∷ codes "end" ∷ []
-
--- the byte `?`, with which the text of an unknown begins
-abbrev pub mark : ℕ
-mark = 63
 
 -- a constant as it is stored: with one more `?` in front where it begins with `?`
 abbrev pub stored_constant : List ℕ → List ℕ
@@ -60,16 +57,12 @@ table_text header rows = flat_map (row_text default_writer) (header ∷ map reco
 abbrev pub IsDoubled : List ℕ → Type 0
 IsDoubled text = (rest : List ℕ) × (text ≡ mark ∷ mark ∷ rest)
 
--- the text is `?n`, the number n from 1
-abbrev pub IsNumbered : List ℕ → ℕ → Type 0
-IsNumbered text n = (digits : List ℕ) × (text ≡ mark ∷ digits) × IsPositive digits × (value_of digits ≡ n)
-
 -- what a cell stands for: one that begins with `??` for the constant without the first `?`, a `?n` for the unknown n,
 -- and any other for the constant as it stands
 abbrev pub IsCell : List ℕ → TermOf (List ℕ) → Type 0
 IsCell text (constant c) =
-    (IsDoubled text × (text ≡ mark ∷ c)) ⊎ (¬ IsDoubled text × ((n : ℕ) → ¬ IsNumbered text n) × (text ≡ c))
-IsCell text (unknown (numbered n)) = IsNumbered text n
+    (IsDoubled text × (text ≡ mark ∷ c)) ⊎ (¬ IsDoubled text × ((n : ℕ) → ¬ IsMark text n) × (text ≡ c))
+IsCell text (unknown (numbered n)) = IsMark text n
 IsCell text (unknown (named rule frontier var)) = ⊥
 
 -- the texts are the start and the end of a span, or there is neither
@@ -86,11 +79,31 @@ pub record IsRow (fields : List (List ℕ)) (r : StoredRow) : Type 0 where
   pub cells : AllZip IsCell texts r.cells
   pub span : AreEnds ends r.span
 
--- what stored bytes mean: the first record is the header, and each further one is the row at its place
-pub record IsStored (bytes : List ℕ) (header : List (List ℕ)) (rows : List StoredRow) : Type 0 where
+-- the first record is the header, and each further one is the row at its place
+pub record HasRecords (bytes : List ℕ) (header : List (List ℕ)) (rows : List StoredRow) : Type 0 where
   pub records : List (List (List ℕ))
   pub read : AreRecordsOf bytes (header ∷ records)
   pub each : AllZip IsRow records rows
+
+-- the row has a span
+abbrev pub HasSpan : StoredRow → Type 0
+HasSpan r = IsSome r.span
+
+-- the row has no span
+abbrev pub LacksSpan : StoredRow → Type 0
+LacksSpan r = r.span ≡ None
+
+-- what the bytes of a table with spans mean: the header is that of some columns, and each row has its span
+pub record IsStored (bytes : List ℕ) (header : List (List ℕ)) (rows : List StoredRow) : Type 0 where
+  pub whole : HasRecords bytes header rows
+  pub columns : List (List ℕ)
+  pub header_is : header ≡ header_of columns
+  pub spans : All HasSpan rows
+
+-- what the bytes of a table without spans mean: each field of a row is a cell, whatever the columns are called
+pub record IsStoredBare (bytes : List ℕ) (header : List (List ℕ)) (rows : List StoredRow) : Type 0 where
+  pub whole : HasRecords bytes header rows
+  pub spans : All LacksSpan rows
 
 -- the text begins with a letter
 abbrev pub BeginsWithLetter : List ℕ → Type 0

@@ -2,7 +2,7 @@
 
 ghost use Rattle.std.specs.Prelude.{◌≡◌, ◌⊎◌, ◌<◌, ℕ, List, All, length, map};
 ghost use Rattle.rule_core.specs.Terms.{StampedOf, TermOf};
-ghost use Rattle.temporal_csv.specs.Stored.{BeginsWithLetter, IsAsWideAs, IsCell, IsStorableRow, IsStored, StoredRow, bare_row, stamped_row, table_text};
+ghost use Rattle.temporal_csv.specs.Stored.{BeginsWithLetter, HasRecords, IsAsWideAs, IsCell, IsStorableRow, IsStored, IsStoredBare, StoredRow, bare_row, stamped_row, table_text};
 ghost use Rattle.temporal_csv.specs.Table.{IsFirstFault, IsTable, TableFaults};
 ghost use Rattle.temporal_csv.specs.declared.fault.TableFault.{TableFault};
 
@@ -43,7 +43,7 @@ pub fn stored_tables_are_read_back()
     ensures { (header : List (List ℕ)) (rows : List StoredRow)
         → 0 < length header → All BeginsWithLetter header
         → All (IsAsWideAs header) rows → All IsStorableRow rows
-        → IsStored (table_text header rows) header rows }
+        → HasRecords (table_text header rows) header rows }
 {
     end_texts_read_back();
 }
@@ -54,16 +54,16 @@ pub fn each_cell_is_one_term()
         × ((other : TermOf (List ℕ)) → IsCell text other → other ≡ term) }
 {}
 
-/// Stored bytes have one header at most, and one list of rows of each kind at most, with spans or without.
+/// Stored bytes have one header at most, and one list of rows at most as a table with spans, and one as a table without.
 pub fn stored_bytes_have_one_meaning()
     ensures header { (bytes : List ℕ) (c d : List (List ℕ)) (xs ys : List StoredRow)
-        → IsStored bytes c xs → IsStored bytes d ys → c ≡ d }
+        → HasRecords bytes c xs → HasRecords bytes d ys → c ≡ d }
     ensures stamped { (bytes : List ℕ) (c d : List (List ℕ))
         (xs ys : List (StampedOf (List (TermOf (List ℕ)))))
         → IsStored bytes c (map stamped_row xs) → IsStored bytes d (map stamped_row ys) → xs ≡ ys }
     ensures bare { (bytes : List ℕ) (c d : List (List ℕ))
         (xs ys : List (List (TermOf (List ℕ))))
-        → IsStored bytes c (map bare_row xs) → IsStored bytes d (map bare_row ys) → xs ≡ ys }
+        → IsStoredBare bytes c (map bare_row xs) → IsStoredBare bytes d (map bare_row ys) → xs ≡ ys }
 {
     one_end_a_text();
 }

@@ -1,10 +1,11 @@
 //! Tables as they are stored: a header and the rows, as records of csv's default dialect.
 
-ghost use Rattle.std.specs.Prelude.{◌≡◌, ◌<◌, [], ◌∷◌, ◌++◌, length, map, All, IfOk, OnOk};
+ghost use Rattle.std.specs.Prelude.{◌≡◌, ◌<◌, ℕ, List, [], ◌∷◌, ◌++◌, length, map, All, IfOk, OnOk};
 ghost use Rattle.csv.specs.Records.{fields_of, partial_of};
 ghost use Rattle.csv.specs.Writing.{default_writer, row_text};
+ghost use Rattle.rule_core.specs.Terms.{StampedOf, TermOf};
 ghost use Rattle.temporal_csv.specs.Cells.{term_of};
-ghost use Rattle.temporal_csv.specs.Stored.{AreNumbered, BeginsWithLetter, HasStorableEnds, IsAsWideAs, IsStorableRow, IsStored, cell_text, end_texts, record_of, table_text};
+ghost use Rattle.temporal_csv.specs.Stored.{AreNumbered, BeginsWithLetter, HasStorableEnds, IsAsWideAs, IsStorableRow, IsStored, IsStoredBare, bare_row, cell_text, end_texts, header_of, record_of, stamped_row, table_text};
 ghost use Rattle.temporal_csv.specs.TableWriter.{FitsWord, IsBetween, written_text};
 
 use crate::cell::{Cell, append_cell};
@@ -15,7 +16,8 @@ use std::alloc::Global;
 use term_core::{Items, Memory, Text};
 use time_line::{Side, Span, write_end};
 
-/// The bytes of a table with this header and these rows, which mean the header and the rows again.
+/// The bytes of a table with this header and these rows, which mean the header and the rows again, as a table with
+/// spans or as one without.
 pub fn write_table(
     alloc: Global,
     header: &Items<Text>,
@@ -26,7 +28,11 @@ pub fn write_table(
     requires widths { All (IsAsWideAs header.now) rows.now }
     requires numbers { All AreNumbered rows.now }
     ensures text { IfOk result (λ bytes. bytes ≡ table_text header.now rows.now) }
-    ensures stored { IfOk result (λ bytes. IsStored bytes header.now rows.now) }
+    ensures stored { IfOk result (λ bytes. (columns : List (List ℕ)) (table : List (StampedOf (List (TermOf (List ℕ)))))
+        → header.now ≡ header_of columns → rows.now ≡ map stamped_row table
+        → IsStored bytes (header_of columns) (map stamped_row table)) }
+    ensures bare { IfOk result (λ bytes. (table : List (List (TermOf (List ℕ))))
+        → rows.now ≡ map bare_row table → IsStoredBare bytes header.now (map bare_row table)) }
 {
     // Flexible, so that no lengths are compared again, and only memory can be wanting.
     let mut out = WriterBuilder::new()

@@ -1,8 +1,9 @@
 use Rattle.std.proofs.Common.{◌≡◌, ◌∙◌, take, sym, subst}
 use Rattle.std.proofs.lemmas.List.{take_all, take_more}
 use Rattle.std.proofs.lemmas.Result.{IfOk-weaker}
-use Rattle.temporal_csv.specs.Stored.{IsStored}
+use Rattle.temporal_csv.specs.Stored.{HasRecords}
 use Rattle.temporal_csv.specs.TableWriter.{written_text}
+use Rattle.temporal_csv.proofs.StoredLemmas.{stored-bare, stored-stamped}
 use Rattle.temporal_csv.proofs.WriterLemmas.{so_far-more, storable-rows}
 use Rattle.temporal_csv.proofs.stored.write_table.Goals as goal
 
@@ -25,5 +26,20 @@ returns-clause-stored c =
     let written = rw all at c.loop-row.invariant in
     let storable = storable-rows rows c.requires.numbers written.fits written.ends in
     let stored = c.stored_tables_are_read_back.ensures header rows c.requires.some c.requires.letters c.requires.widths storable in
-    IfOk-weaker c.finish.result (λ bytes. bytes ≡ written_text c.loop-row.out) (λ bytes. IsStored bytes header rows)
-    (λ bytes same. subst (λ b. IsStored b header rows) (sym (same ∙ written.text)) stored) c.finish.ensures
+    IfOk-weaker c.finish.result (λ bytes. bytes ≡ written_text c.loop-row.out) _
+    (λ bytes same columns table e f.
+    stored-stamped bytes header columns rows table (subst (λ b. HasRecords b header rows) (sym (same ∙ written.text)) stored) e f)
+    c.finish.ensures
+
+pub returns-clause-bare : goal.returns-clause-bare
+returns-clause-bare c =
+    let header = c.args.header.now in
+    let rows = c.args.rows.now in
+    let all : take c.loop-row.row-index c.as_slice-row-items.result.now ≡ rows =
+    take_all _ _ c.loop-row-test.false ∙ c.as_slice-row-items.ensures in
+    let written = rw all at c.loop-row.invariant in
+    let storable = storable-rows rows c.requires.numbers written.fits written.ends in
+    let stored = c.stored_tables_are_read_back.ensures header rows c.requires.some c.requires.letters c.requires.widths storable in
+    IfOk-weaker c.finish.result (λ bytes. bytes ≡ written_text c.loop-row.out) _
+    (λ bytes same table f. stored-bare bytes header rows table (subst (λ b. HasRecords b header rows) (sym (same ∙ written.text)) stored) f)
+    c.finish.ensures
