@@ -5,7 +5,6 @@ use Rattle.rule_core.specs.declared.rules.Relation.{Relation}
 use Rattle.rule_core.specs.Mapping.{RuleSet}
 use Rattle.decl_text.specs.declared.fault.Code.{Code}
 use Rattle.decl_text.specs.declared.fault.MappingFault.{MappingFault}
-use Rattle.decl_text.specs.Tokens.{IsNextFault}
 use Rattle.decl_text.specs.Tests.{Lexeme, Outcome, Goes, Stops, When, Test, IsDecided, IsFinal}
 use Rattle.decl_text.specs.Declaration.{Named, begins, wants_name, wants_parenthesis, wants_column, wants_comma, wants_line_end, declared, declaration_tests, IsDeclaration, FailsDeclaration}
 use Rattle.decl_text.proofs.OneOutcome.{leads_once, leads_fails, fails_once}

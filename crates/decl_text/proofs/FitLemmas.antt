@@ -1,5 +1,5 @@
 -- A declaration that is read is valid in the mapping before it.
-use Rattle.std.proofs.Common.{◌≡◌, ◌≢◌, ◌⊎◌, inl, inr, ℕ, ◌+◌, ◌<◌, ◌≤◌, List, [], ◌∷◌, ◌++◌, length, get_or, codes, All, AllPairs, Contains, refl, sym, subst, arith}
+use Rattle.std.proofs.Common.{◌≡◌, ◌≢◌, inl, inr, ℕ, ◌≤◌, List, [], ◌∷◌, ◌++◌, length, All, Contains, refl, subst, arith}
 use Rattle.std.proofs.lemmas.List.{length_push}
 use Rattle.std.proofs.lemmas.List.Elements.{All-nil, All-push, Contains-get_or}
 use Rattle.std.proofs.lemmas.List.Quantifiers.{all_pairs_push}
@@ -9,14 +9,13 @@ use Rattle.rule_core.specs.declared.rules.Relation.{Relation}
 use Rattle.rule_core.specs.Mapping.{RuleSet}
 use Rattle.rule_core.specs.Names.{IsName}
 use Rattle.rule_core.specs.Validity.{AreDistinct, IsValid}
-use Rattle.rule_core.specs.Adding.{with_relation, IsNewRelation}
+use Rattle.rule_core.specs.Adding.{with_relation}
 use Rattle.rule_core.proofs.ValidityLemmas.{with_relation-valid}
 use Rattle.decl_text.specs.declared.token.Kind.{Kind}
-use Rattle.decl_text.specs.declared.token.Kind.TheVariants.{Name, Quoted, LeftParen, RightParen, Comma}
+use Rattle.decl_text.specs.declared.token.Kind.TheVariants.{Name, Quoted}
 use Rattle.decl_text.specs.declared.token.Token.{Token}
-use Rattle.decl_text.specs.declared.fault.Code.TheVariants.{X5, U5, U6}
 use Rattle.decl_text.specs.Tests.{Lexeme, goes, Says, Pass}
-use Rattle.decl_text.specs.Declaration.{IsKeyword, EndsLine, IsNewName, HasPlace, with_column, DeclarationPosition, begins, wants_name, wants_parenthesis, wants_column, wants_comma, wants_line_end, declared, declaration_tests, IsDeclaration}
+use Rattle.decl_text.specs.Declaration.{EndsLine, IsNewName, HasPlace, with_column, DeclarationPosition, begins, wants_name, wants_parenthesis, wants_column, wants_comma, wants_line_end, declared, declaration_tests, IsDeclaration}
 use Rattle.decl_text.proofs.PassLemmas.{IsLexeme, Pass-keeps, Pass-each, Goes-next, Test-next, Named-next}
 
 -- a text that the list doesn't have is none of its texts

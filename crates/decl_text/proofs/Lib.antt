@@ -4,10 +4,15 @@ pub mod GapLemmas
 pub mod ScanLemmas
 pub mod OnceLemmas
 pub mod NextLemmas
+pub mod EitherLemmas
+pub mod AtLemmas
 pub mod OneOutcome
 pub mod DecidedLemmas
 pub mod TestLemmas
+pub mod SomeLemmas
+pub mod WholeLemmas
 pub mod DeclarationLemmas
+pub mod DeclaredLemmas
 pub mod PassLemmas
 pub mod FitLemmas
 pub mod WrittenLemmas

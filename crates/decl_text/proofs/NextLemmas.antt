@@ -1,18 +1,17 @@
 -- The next token and its fault are one thing, and a text in quotes is read back.
-use Rattle.std.proofs.Common.{◌≡◌, ◌+◌, ◌<◌, ℕ, List, [], ◌∷◌, ◌++◌, length, drop, encode_utf8_all, chars, IsTrue, refl, sym, ap, ◌∙◌, subst, arith, ◌≢◌, ◌⊎◌, ⊎_elim, Option, Some, None}
+use Rattle.std.proofs.Common.{◌≡◌, ◌+◌, ◌<◌, ℕ, List, [], ◌∷◌, ◌++◌, length, drop, encode_utf8_all, chars, refl, sym, ap, ◌∙◌, subst, arith, ◌≢◌}
 use Rattle.std.specs.List.{flat_map}
 use Rattle.std.proofs.lemmas.List.{length-append, drop_at}
-use Rattle.std.proofs.lemmas.List.Elements.{All-nil}
 use Rattle.std.proofs.lemmas.Str.{chars-encodes}
 use Rattle.decl_text.specs.declared.token.Kind.{Kind}
 use Rattle.decl_text.specs.declared.fault.Code.{Code}
-use Rattle.decl_text.specs.declared.token.Kind.TheVariants.{Quoted, Finish}
+use Rattle.decl_text.specs.declared.token.Kind.TheVariants.{Quoted}
 use Rattle.decl_text.specs.declared.token.Token.{Token}
 use Rattle.decl_text.specs.declared.fault.MappingFault.{MappingFault}
 use Rattle.decl_text.specs.Quotes.{in_quotes, IsQuoted}
-use Rattle.decl_text.specs.Tokens.{is_blank, EndsGap, IsNextToken, IsBadToken, IsNextFault}
-use Rattle.decl_text.specs.TokenList.{AreTokens}
+use Rattle.decl_text.specs.Tokens.{EndsGap, IsNextToken, IsBadToken, IsNextFault}
 use Rattle.decl_text.proofs.QuoteLemmas.{characters_once, Ends-close}
+use Rattle.decl_text.proofs.ScanLemmas.{no_gap}
 use Rattle.decl_text.proofs.OnceLemmas.{gap_once, spelled_once, bad_once, bad_is_no_token, EndsGap-token, EndsGap-bad}
 
 gap_size : (g h r s : List ℕ) → g ++ r ≡ h ++ s → r ≡ s → length g ≡ length h
@@ -82,7 +81,7 @@ quoted_token before quoted text rest is = record {
   spelled = quoted;
   rest = rest;
   bytes_are = drop_at before (quoted ++ rest) (length before) refl;
-  gap_before = record { blanks = []; comment = []; bytes_are = refl; all_blank = All-nil (λ b. IsTrue (is_blank b)); one_comment = tt };
+  gap_before = no_gap (quoted ++ rest);
   start_is = omega arith;
   end_is = refl;
   whole = (text, is);
@@ -101,32 +100,3 @@ quoted_printed quoted other text p q =
     let same : p.0 ≡ q.0 =
     sym (chars-encodes p.0 p.1.characters_are) ∙ ap chars (sym p.2 ∙ q.2) ∙ chars-encodes q.0 q.1.characters_are in
     p.1.bytes_are ∙ ap (λ cs. 34 ∷ (flat_map in_quotes cs ++ 34 ∷ [])) same ∙ sym q.1.bytes_are
-
--- what follows a token in a list of tokens
-abbrev pub Follows : List ℕ → Token → List Token → Option MappingFault → Type 0
-Follows bytes token tokens fault =
-    ((token.kind ≡ Finish) × (tokens ≡ []) × (fault ≡ None)) ⊎ ((token.kind ≢ Finish) × AreTokens bytes token.end tokens fault)
-
--- two lists of tokens with their faults are the same
-abbrev pub Same : List Token → List Token → Option MappingFault → Option MappingFault → Type 0
-Same a b p q = (a ≡ b) × (p ≡ q)
-
-pub tokens_once : (bytes : List ℕ) (from : ℕ) (a b : List Token) (p q : Option MappingFault) → AreTokens bytes from a p
-    → AreTokens bytes from b q → Same a b p q
-tokens_once bytes from [] b None q x y = absurd x
-tokens_once bytes from a [] p None x y = absurd y
-tokens_once bytes from [] [] (Some f) (Some g) x y = (refl, ap Some (next_fault_once bytes from f g x y))
-tokens_once bytes from [] (u ∷ us) (Some f) q x y = absurd (next_apart bytes from u f y.0 x)
-tokens_once bytes from (t ∷ ts) [] p (Some g) x y = absurd (next_apart bytes from t g x.0 y)
-tokens_once bytes from (t ∷ ts) (u ∷ us) p q x y =
-    let first : t ≡ u = next_token_once bytes from t u x.0 y.0 in
-    let here : Follows bytes u ts p = subst (λ v. Follows bytes v ts p) first x.1 in
-    let rest : Same ts us p q =
-    ⊎_elim
-    (λ (m : (u.kind ≡ Finish) × (ts ≡ []) × (p ≡ None)). ⊎_elim
-    (λ (n : (u.kind ≡ Finish) × (us ≡ []) × (q ≡ None)). (m.1 ∙ sym n.1, m.2 ∙ sym n.2))
-    (λ (n : (u.kind ≢ Finish) × AreTokens bytes u.end us q). absurd (n.0 m.0)) y.1)
-    (λ (m : (u.kind ≢ Finish) × AreTokens bytes u.end ts p). ⊎_elim
-    (λ (n : (u.kind ≡ Finish) × (us ≡ []) × (q ≡ None)). absurd (m.0 n.0))
-    (λ (n : (u.kind ≢ Finish) × AreTokens bytes u.end us q). tokens_once bytes u.end ts us p q m.1 n.1) y.1) here in
-    (ap (λ v. v ∷ ts) first ∙ ap (λ l. u ∷ l) rest.0, rest.1)

@@ -6,7 +6,7 @@ use Rattle.decl_text.specs.declared.token.Kind.TheVariants.{Name, Quoted, LeftPa
 use Rattle.decl_text.specs.declared.token.Token.{Token}
 use Rattle.decl_text.specs.declared.fault.Code.{Code}
 use Rattle.decl_text.specs.declared.fault.MappingFault.{MappingFault}
-use Rattle.decl_text.specs.Tokens.{IsSpelled, IsNextToken, IsNextFault}
+use Rattle.decl_text.specs.Tokens.{IsSpelled, IsNextToken}
 use Rattle.decl_text.specs.Tests.{Lexeme, IsTextOf, Says, Outcome, goes, stops, IsDecided, IsFinal, Rests, Comes, Pass, Leads, Finishes, FailsNext, Fails}
 use Rattle.decl_text.proofs.NextLemmas.{next_token_once, next_fault_once, next_apart, quoted_read, fault_same}
 
@@ -41,7 +41,7 @@ finish_says bytes token lexeme finish says =
     (subst (λ k. IsTextOf k (take (token.end - token.start) (drop token.start bytes)) lexeme.text) finish says.text)
 
 -- only the end of the text is spelled by no byte
-spelled_by_none : (kind : Kind) (spelled rest : List ℕ) → spelled ≡ [] → IsSpelled kind spelled rest → kind ≡ Finish
+pub spelled_by_none : (kind : Kind) (spelled rest : List ℕ) → spelled ≡ [] → IsSpelled kind spelled rest → kind ≡ Finish
 spelled_by_none Name [] rest e is = absurd is.0
 spelled_by_none Name (b ∷ bs) rest e is = absurd cc
 spelled_by_none Quoted spelled rest e is = let whole = sym e ∙ is.1.1.bytes_are in absurd cc

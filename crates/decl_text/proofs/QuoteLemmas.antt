@@ -30,7 +30,7 @@ Plain c = (is_escaped c ≡ false) × (in_quotes c ≡ encode_utf8 c)
 abbrev pub Escaped : ℕ → Type 0
 Escaped c = (l : ℕ) × (is_escape l ≡ true) × (unescaped l ≡ c) × (in_quotes c ≡ 92 ∷ l ∷ [])
 
-not_escaped : (c : ℕ) → (c ≡ 34 → ⊥) → (c ≡ 92 → ⊥) → (c ≡ 10 → ⊥) → (c ≡ 13 → ⊥) → is_escaped c ≡ false
+pub not_escaped : (c : ℕ) → (c ≡ 34 → ⊥) → (c ≡ 92 → ⊥) → (c ≡ 10 → ⊥) → (c ≡ 13 → ⊥) → is_escaped c ≡ false
 not_escaped c a b d e = grind (arith, nat_tests)
 
 pub in_quotes-plain : (c : ℕ) → is_escaped c ≡ false → in_quotes c ≡ encode_utf8 c

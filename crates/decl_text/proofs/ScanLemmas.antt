@@ -30,14 +30,13 @@ gap_between bytes from n fits is = record {
   is = subst (IsGap (take n (drop from bytes))) (drop-drop n from bytes) is;
 }
 
+-- nothing is a gap
+pub no_gap : (rest : List ℕ) → IsGap [] rest
+no_gap rest = record { blanks = []; comment = []; bytes_are = refl; all_blank = All-nil (λ b. IsTrue (is_blank b)); one_comment = tt }
+
 -- between a place and itself stands nothing
 pub no_gap_between : (bytes : List ℕ) (from : ℕ) → IsGapBetween bytes from from
-no_gap_between bytes from = record {
-  gap = [];
-  bytes_are = refl;
-  to_is = omega arith;
-  is = record { blanks = []; comment = []; bytes_are = refl; all_blank = All-nil (λ b. IsTrue (is_blank b)); one_comment = tt };
-}
+no_gap_between bytes from = record { gap = []; bytes_are = refl; to_is = omega arith; is = no_gap (drop from bytes) }
 
 -- behind a gap, so many bytes are the next token
 pub token_behind : (bytes : List ℕ) (from start len : ℕ) (kind : Kind) → IsGapBetween bytes from start → len ≤ length (drop start bytes)

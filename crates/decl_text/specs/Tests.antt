@@ -53,7 +53,7 @@ module _ {P : Type 0} where
 abbrev pub Tests : Type 0 → Type 1
 Tests P = P → Lexeme → Outcome P → Type 0
 
-module _ {P : Type 0} (tests : P → Lexeme → Outcome P → Type 0) where
+module _ {P : Type 0} (tests : Tests P) where
   -- at each position, the tests of a token come to one outcome at most
   abbrev pub IsDecided : Type 0
   IsDecided = (position : P) (lexeme : Lexeme) (a b : Outcome P) → tests position lexeme a → tests position lexeme b → a ≡ b
@@ -67,7 +67,7 @@ module _ {P : Type 0} (tests : P → Lexeme → Outcome P → Type 0) where
   Rests = (position next : P) → tests position (record { kind = Finish; text = [] }) (goes next)
       → tests next (record { kind = Finish; text = [] }) (goes next)
 
-module _ {P : Type 0} (tests : P → Lexeme → Outcome P → Type 0) (bytes : List ℕ) where
+module _ {P : Type 0} (tests : Tests P) (bytes : List ℕ) where
   -- the token's tests come to this outcome
   pub record Comes (position : P) (token : Token) (outcome : Outcome P) : Type 0 where
     pub lexeme : Lexeme

@@ -1,6 +1,6 @@
 //! Laws of the definitions: what stands next is one thing, and texts in quotes and declarations are read back.
 
-ghost use Rattle.std.specs.Prelude.{◌≡◌, ◌+◌, ℕ, List, ◌++◌, length, Contains, Option};
+ghost use Rattle.std.specs.Prelude.{◌≡◌, ◌⊎◌, ◌+◌, ℕ, List, ◌++◌, length, Contains};
 ghost use Rattle.rule_core.specs.declared.rules.Place.{Place as PlaceValue};
 ghost use Rattle.rule_core.specs.declared.rules.Relation.{Relation as RelationValue};
 ghost use Rattle.rule_core.specs.Mapping.{RuleSet};
@@ -10,14 +10,13 @@ ghost use Rattle.decl_text.specs.declared.token.Kind.TheVariants as kinds;
 ghost use Rattle.decl_text.specs.declared.token.Token.{Token as TokenValue};
 ghost use Rattle.decl_text.specs.declared.fault.MappingFault.{MappingFault as FaultValue};
 ghost use Rattle.decl_text.specs.Quotes.{IsQuoted};
-ghost use Rattle.decl_text.specs.Tokens.{IsNextToken, IsNextFault};
-ghost use Rattle.decl_text.specs.TokenList.{AreTokens};
+ghost use Rattle.decl_text.specs.Tokens.{IsNextToken, IsNextFault, IsTokenAt, IsFaultAt};
 ghost use Rattle.decl_text.specs.Tests.{IsDecided, Says, Pass};
 ghost use Rattle.decl_text.specs.Declaration.{begins, declared, declaration_tests, IsDeclaration, FailsDeclaration};
 ghost use Rattle.decl_text.specs.Canonical.{declaration_text};
 
-/// From a place on, no two tokens stand next, no two faults, and not a token and a fault: so what
-/// `next_token` answers is all that the definitions allow.
+/// From a place on, one token stands next, or one fault, and not both: so what `next_token` answers is all
+/// that the definitions allow.
 pub fn one_token_or_one_fault_stands_next()
     ensures token { (bytes : List ℕ) (from : ℕ) (a b : TokenValue)
         → IsNextToken bytes from a → IsNextToken bytes from b → a ≡ b }
@@ -25,14 +24,21 @@ pub fn one_token_or_one_fault_stands_next()
         → IsNextFault bytes from a → IsNextFault bytes from b → a ≡ b }
     ensures apart { (bytes : List ℕ) (from : ℕ) (a : TokenValue) (b : FaultValue)
         → IsNextToken bytes from a → ¬ (IsNextFault bytes from b) }
+    ensures either { (bytes : List ℕ) (from : ℕ)
+        → ((token : TokenValue) × IsNextToken bytes from token) ⊎ ((fault : FaultValue) × IsNextFault bytes from fault) }
 {}
 
-/// From a place on, the bytes have one list of tokens, and one fault after it or none.
-pub fn bytes_have_one_list_of_tokens()
-    ensures tokens { (bytes : List ℕ) (from : ℕ) (a b : List TokenValue) (p q : Option FaultValue)
-        → AreTokens bytes from a p → AreTokens bytes from b q → a ≡ b }
-    ensures fault { (bytes : List ℕ) (from : ℕ) (a b : List TokenValue) (p q : Option FaultValue)
-        → AreTokens bytes from a p → AreTokens bytes from b q → p ≡ q }
+/// Exactly at a place one token begins, or none does and one fault stands there: so what `token_at` answers is all
+/// that the definitions allow.
+pub fn a_place_begins_one_token_or_has_one_fault()
+    ensures token { (bytes : List ℕ) (at : ℕ) (a b : TokenValue)
+        → IsTokenAt bytes at a → IsTokenAt bytes at b → a ≡ b }
+    ensures fault { (bytes : List ℕ) (at : ℕ) (a b : FaultValue)
+        → IsFaultAt bytes at a → IsFaultAt bytes at b → a ≡ b }
+    ensures apart { (bytes : List ℕ) (at : ℕ) (a : TokenValue) (b : FaultValue)
+        → IsTokenAt bytes at a → ¬ (IsFaultAt bytes at b) }
+    ensures either { (bytes : List ℕ) (at : ℕ)
+        → ((token : TokenValue) × IsTokenAt bytes at token) ⊎ ((fault : FaultValue) × IsFaultAt bytes at fault) }
 {}
 
 /// A text in quotes is a token wherever it stands, it is of one text, and a text stands in quotes in
@@ -50,8 +56,8 @@ pub fn quoted_texts_are_read_back()
         → IsQuoted quoted text → IsQuoted other text → quoted ≡ other }
 {}
 
-/// From a place on, at most one declaration stands, and it ends at one place; a line has one first
-/// fault; and not both.
+/// From a place on, one declaration stands, and it ends at one place; or the line has one first fault;
+/// and not both.
 pub fn a_declaration_is_one()
     ensures decided { (rules : RuleSet) → IsDecided (declaration_tests rules) }
     ensures one { (bytes : List ℕ) (rules : RuleSet) (from : ℕ) (place other : PlaceValue)
@@ -63,6 +69,9 @@ pub fn a_declaration_is_one()
         → (relation : RelationValue) (to : ℕ) (fault : FaultValue)
         → IsDeclaration bytes rules from place relation to
         → ¬ (FailsDeclaration bytes rules from fault) }
+    ensures either { (bytes : List ℕ) (rules : RuleSet) (from : ℕ)
+        → ((place : PlaceValue) × (relation : RelationValue) × (to : ℕ) × IsDeclaration bytes rules from place relation to)
+        ⊎ ((fault : FaultValue) × FailsDeclaration bytes rules from fault) }
 {}
 
 /// A relation whose declaration is read from a line fits the mapping before it.
