@@ -5,7 +5,7 @@ ghost use Rattle.std.specs.Bool.{OnTrue, OnFalse};
 ghost use Rattle.std.specs.Cmp.Lexicographic.{slice_cmp};
 ghost use Rattle.term_core.specs.declared.term.Term.{Term};
 ghost use Rattle.term_core.specs.Order.{term_cmp};
-ghost use Rattle.time_line.specs.Span.{HasInstant, AreApart, Meet, Touch, IsJoin};
+ghost use Rattle.time_line.specs.Span.{AreApart, Meet, Touch, IsJoin};
 ghost use Rattle.rule_core.specs.Coalesced.{Covers, IsCoalesced, stamped_cmp};
 
 use crate::Stamped;
@@ -39,12 +39,13 @@ fn sweep(rows: &mut Vec<Stamped>) -> usize
     ensures covers { (row : List Term) (t : ℤ)
         → Covers (take (result + 1) rows.new.items) row t ↔ Covers rows.old.items row t }
 {
-    has_instant(&rows[0]);
+    let first = &rows[0];
+    first.span.is_kept();
     let mut last = 0;
     for at in 1..rows.len() {
         let next = &rows[at];
-        has_instant(next);
         let span = next.span;
+        span.is_kept();
         if goes_on(&rows[last], next) {
             widen(&mut rows[last], span);
         } else {
@@ -55,13 +56,6 @@ fn sweep(rows: &mut Vec<Stamped>) -> usize
     last
 }
 
-// A span has an instant, as its start tells.
-fn has_instant(entry: &Stamped)
-    ensures { HasInstant entry.now.span }
-{
-    let _start = entry.span.lo();
-}
-
 // Whether the next row only goes on with the last: they are one row, and their spans meet or touch.
 fn goes_on(last: &Stamped, next: &Stamped) -> bool
     ensures row { OnTrue result (last.now.row ≡ next.now.row) }
@@ -70,18 +64,7 @@ fn goes_on(last: &Stamped, next: &Stamped) -> bool
     ensures no { OnFalse result (last.now.row ≡ next.now.row
         → AreApart last.now.span next.now.span × ¬ (Touch last.now.span next.now.span)) }
 {
-    last.row == next.row && adjoin(&last.span, &next.span)
-}
-
-// Whether two spans meet or touch.
-fn adjoin(a: &Span, b: &Span) -> bool
-    ensures yes { OnTrue result (Meet a.now b.now ⊎ Touch a.now b.now) }
-    ensures no { OnFalse result (AreApart a.now b.now × ¬ (Touch a.now b.now)) }
-{
-    match a.meet(b) {
-        Some(_) => true,
-        None => a.touches(b),
-    }
+    last.row == next.row && last.span.adjoins(&next.span)
 }
 
 // Gives the row the span of both.

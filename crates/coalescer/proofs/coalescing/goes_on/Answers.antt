@@ -19,7 +19,7 @@ pub returns-then-eq-clause-row : goal.returns-then-eq-clause-row
 returns-then-eq-clause-row c =
     let last = c.args.last.now in
     let next = c.args.next.now in
-    on_true (last.row ≡ next.row) c.adjoin.result
+    on_true (last.row ≡ next.row) c.adjoins.result
     (equal_rows last.row next.row (sym (told (goal.at.returns-then-eq-clause-row c).After-eq) ∙ c.if-eq.true))
 
 pub returns-else-eq-clause-no : goal.returns-else-eq-clause-no
