@@ -2,7 +2,7 @@
 use Rattle.std.proofs.Common.{◌≡◌, ◌≢◌, ◌↔◌, ◌⊎◌, List, [], ◌∷◌, ◌++◌, map, sym, ap, subst, ◌∙◌, inl, inr, get_or, All, AllPairs, Contains}
 use Rattle.std.proofs.lemmas.List.{append-nil, append_assoc, map-append}
 use Rattle.std.proofs.lemmas.List.Elements.{All-nil, All-cons, All-head, All-tail, All-append, All-map, Contains-get_or, Contains-append_left, Contains-append_right, Contains-append_cases}
-use Rattle.rule_core.proofs.ListLemmas.{All-from_map, Contains-head, Contains-cons, Contains-cons_cases, AllPairs-head, AllPairs-tail, AllPairs-cons}
+use Rattle.rule_core.proofs.ListLemmas.{All-from_map, Contains-head, Contains-cons_cases, AllPairs-head, AllPairs-tail, AllPairs-cons}
 
 module _ {X : Type 0} where
   -- no element is this one

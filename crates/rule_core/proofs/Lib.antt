@@ -20,3 +20,4 @@ pub mod PoolRenaming
 mod DefinitionFacts
 mod WorkedFacts
 mod FiringFacts
+mod AnswerFacts

@@ -29,7 +29,7 @@ use Rattle.rule_core.proofs.SetLemmas.{universal_same_sets}
 -- The first run: a mapping that copies A(x) to B(x), for
 --     a,1,3; a,3,5; b,-inf,2      which gives      a,1,5; b,-inf,2
 -- the atom of a side's first relation with these variables
-abbrev atom_of : List ℕ → Atom
+abbrev pub atom_of : List ℕ → Atom
 atom_of variables = record { relation = 0; args = map Var variables }
 
 abbrev first_of_x : Atom
@@ -245,7 +245,7 @@ some_rule = record {
   head = atom_of (0 ∷ 2 ∷ []) ∷ [];
 }
 
-abbrev exists_some : RuleSet
+abbrev pub exists_some : RuleSet
 exists_some = record {
   sources = relation (codes "A") (codes "x" ∷ codes "y" ∷ []) ∷ [];
   targets = relation (codes "B") (codes "x" ∷ codes "z" ∷ []) ∷ [];
@@ -254,18 +254,18 @@ exists_some = record {
   queries = [];
 }
 
-abbrev fact : TermOf (List ℕ) → TermOf (List ℕ) → FactOf (List ℕ)
+abbrev pub fact : TermOf (List ℕ) → TermOf (List ℕ) → FactOf (List ℕ)
 fact x y = record { relation = 0; terms = x ∷ y ∷ [] }
 
-abbrev a : TermOf (List ℕ)
+abbrev pub a : TermOf (List ℕ)
 a = constant (codes "a")
 
-abbrev two_facts : List (FactOf (List ℕ))
+abbrev pub two_facts : List (FactOf (List ℕ))
 two_facts = fact a (constant (codes "1")) ∷ fact a (constant (codes "2")) ∷ []
 
 module _ (name : ConstId → List ℕ) where
   -- any B(a, _) is a solution
-  any_is_a_solution : (z : TermOf (List ℕ)) → IsSolution name exists_some two_facts (fact a z ∷ [])
+  pub any_is_a_solution : (z : TermOf (List ℕ)) → IsSolution name exists_some two_facts (fact a z ∷ [])
   any_is_a_solution z = record {
     tgds = All-cons (λ tgd. TgdHolds name tgd two_facts (fact a z ∷ [])) some_rule [] holds
         (All-nil (λ tgd. TgdHolds name tgd two_facts (fact a z ∷ [])));
@@ -304,7 +304,7 @@ module _ (name : ConstId → List ℕ) where
   null = unknown (numbered 1)
 
   -- with an unknown it is universal
-  one_firing : IsUniversal name exists_some two_facts (fact a null ∷ [])
+  pub one_firing : IsUniversal name exists_some two_facts (fact a null ∷ [])
   one_firing = record { solution = any_is_a_solution null; maps = maps }
     where
       binding : ℕ → TermOf (List ℕ)

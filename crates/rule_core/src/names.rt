@@ -1,6 +1,6 @@
 //! Tests on names.
 
-ghost use Rattle.std.specs.Prelude.{◌≡◌, ◌≢◌, ◌↔◌, All, AllPairs, IsSomeAnd, IsTrue, IfNone, slice_get};
+ghost use Rattle.std.specs.Prelude.{◌≢◌, ◌↔◌, All, IsSomeAnd, IsTrue, slice_get};
 ghost use Rattle.rule_core.specs.Names.{IsLetter, IsNameByte, IsName};
 ghost use Rattle.rule_core.specs.Validity.{AreDistinct};
 

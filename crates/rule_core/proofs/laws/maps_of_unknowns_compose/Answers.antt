@@ -1,5 +1,5 @@
 use Rattle.std.proofs.Common.{Contains}
-use Rattle.rule_core.specs.Laws.{ImagesStay, ImagesCompose, MapsCompose}
+use Rattle.rule_core.specs.Laws.{MapsCompose}
 use Rattle.rule_core.proofs.HomomorphismLemmas.{fact_image-both, composed}
 use Rattle.rule_core.proofs.EqualSideLemmas.{fact_image-unknown}
 use Rattle.rule_core.proofs.laws.maps_of_unknowns_compose.Goals as goal
