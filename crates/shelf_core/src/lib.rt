@@ -24,3 +24,4 @@ pub use memory_sink::MemorySink;
 pub use shelf::{FetchError, Fetched, Shelf, StoreFailed};
 pub use sink::{Sink, SinkFailed};
 pub use std_sink::StdSink;
+pub use transfer::{read_within, write_whole};

@@ -56,7 +56,7 @@ fn buffer(alloc: Global, size: usize) -> Result<Vec<u8>, AllocError>
 }
 
 /// All that the reader has left, where the limit allows. No more than the limit and one byte is read, however much there is.
-pub(crate) fn read_within<R: Read>(
+pub fn read_within<R: Read>(
     reader: &mut R,
     alloc: Global,
     limit: usize,
@@ -100,7 +100,7 @@ fn write_some<W: Write>(writer: &mut W, bytes: &[u8]) -> io::Result<usize>
 }
 
 /// Writes all of the bytes, and flushes. After an error some first part of them is written.
-pub(crate) fn write_whole<W: Write>(writer: &mut W, bytes: &[u8]) -> io::Result<()>
+pub fn write_whole<W: Write>(writer: &mut W, bytes: &[u8]) -> io::Result<()>
     ensures whole { OnOk result
         (Appends (W.contents writer.old) (W.contents writer.new) bytes.now) }
     ensures part { OnErr result
