@@ -1,12 +1,10 @@
 -- Each step of a declaration's line, by its tests.
-use Rattle.std.proofs.Common.{◌≡◌, ◌≢◌, inl, inr, ℕ, zero, suc, ◌<◌, ◌≤◌, List, [], ◌∷◌, ◌++◌, length, codes, All, Contains, Err, refl, sym, ◌∙◌, subst, arith}
-use Rattle.std.specs.Prelude.{IsSomeAnd, slice_get}
-use Rattle.std.proofs.lemmas.List.Elements.{All-head, All-tail, All-cons, All-nil}
+use Rattle.std.proofs.Common.{◌≡◌, ◌≢◌, inl, inr, ℕ, ◌<◌, ◌≤◌, List, [], ◌∷◌, ◌++◌, length, codes, Contains, Err, refl, sym, ◌∙◌, subst, arith}
 use Rattle.rule_core.specs.declared.rules.Place.{Place}
 use Rattle.rule_core.specs.declared.rules.Place.TheVariants.{Source, Target}
 use Rattle.rule_core.specs.declared.rules.Relation.{Relation}
 use Rattle.rule_core.specs.Mapping.{RuleSet}
-use Rattle.rule_core.specs.Adding.{IsNamedAt}
+use Rattle.rule_core.specs.Adding.{IsNewRelationName}
 use Rattle.decl_text.specs.declared.token.Kind.TheVariants.{Name, LeftParen, RightParen, Comma, Finish}
 use Rattle.decl_text.specs.declared.token.Token.{Token}
 use Rattle.decl_text.specs.declared.fault.Code.{Code}
@@ -16,7 +14,7 @@ use Rattle.decl_text.specs.declared.fault.ReadError.{ReadError}
 use Rattle.decl_text.specs.declared.fault.ReadError.TheVariants as errors
 use Rattle.decl_text.specs.Tests.{Lexeme, Outcome, stops, Goes, Test, IsFinal, Leads, Fails, IfFault, goes}
 use Rattle.decl_text.specs.Parts.{StandsNext, IsNoName, IsOther}
-use Rattle.decl_text.specs.Declaration.{Named, IsKeyword, EndsLine, IsNewName, HasPlace, with_column, DeclarationPosition, begins, wants_name, wants_parenthesis, wants_column, wants_comma, wants_line_end, declared, declaration_tests}
+use Rattle.decl_text.specs.Declaration.{Named, IsKeyword, EndsLine, HasPlace, with_column, DeclarationPosition, begins, wants_name, wants_parenthesis, wants_column, wants_comma, wants_line_end, declared, declaration_tests}
 use Rattle.decl_text.proofs.TestLemmas.{Leads-one, Leads-join, Fails-token}
 
 -- a fault that is handed on
@@ -37,29 +35,6 @@ pub Named-passes : {P : Type 0} (wrong word : Code) (further : Outcome P → Typ
     → text ≢ codes "exists" → length text ≤ 64 → further outcome
     → Named wrong word (record { kind = Name; text = text }) further outcome
 Named-passes wrong word further text outcome other short more = inl (refl, inl (other, inl (short, more)))
-
--- no relation with the name is found, so it is new
-names_new : (relations : List Relation) (name : List ℕ) → ((n : ℕ) → ¬ (IsSomeAnd (slice_get relations n) (λ r. r.name ≡ name)))
-    → All (λ r. r.name ≢ name) relations
-names_new [] name none = All-nil (λ r. r.name ≢ name)
-names_new (r ∷ rs) name none =
-    All-cons (λ r. r.name ≢ name) r rs (λ e. none 0 e) (names_new rs name (λ n found. none (suc n) found))
-
-pub none_is_new : (set : RuleSet) (name : List ℕ) → ((place : Place) (number : ℕ) → ¬ (IsNamedAt set name place number))
-    → IsNewName set name
-none_is_new set name none = (names_new set.sources name (none Source), names_new set.targets name (none Target))
-
--- a relation with the name is found, so it isn't new
-name_taken : (relations : List Relation) (name : List ℕ) (n : ℕ) → IsSomeAnd (slice_get relations n) (λ r. r.name ≡ name)
-    → ¬ (All (λ r. r.name ≢ name) relations)
-name_taken [] name n found all = absurd found
-name_taken (r ∷ rs) name zero found all = All-head (λ r. r.name ≢ name) r rs all found
-name_taken (r ∷ rs) name (suc n) found all = name_taken rs name n found (All-tail (λ r. r.name ≢ name) r rs all)
-
-pub found_is_not_new : (set : RuleSet) (name : List ℕ) (place : Place) (number : ℕ) → IsNamedAt set name place number
-    → ¬ (IsNewName set name)
-found_is_not_new set name Source number found new = name_taken set.sources name number found new.0
-found_is_not_new set name Target number found new = name_taken set.targets name number found new.1
 
 -- the line isn't over
 abbrev pub IsOpen : DeclarationPosition → Type 0
@@ -102,7 +77,7 @@ module _ (set : RuleSet) (bytes : List ℕ) where
 
   -- the relation's name
   pub name_goes : (from : ℕ) (place : Place) (token : Token) (text : List ℕ) → StandsNext bytes from token (record { kind = Name; text = text })
-      → text ≢ codes "exists" → length text ≤ 64 → IsNewName set text → HasPlace set
+      → text ≢ codes "exists" → length text ≤ 64 → IsNewRelationName set text → HasPlace set
       → Leads (declaration_tests set) bytes from (wants_name place) token.end (wants_parenthesis place text)
   name_goes from place token text stands other short new room =
       Leads-one (declaration_tests set) bytes from (wants_name place) (wants_parenthesis place text) token
@@ -112,17 +87,17 @@ module _ (set : RuleSet) (bytes : List ℕ) where
   pub name_fails : (place : Place) (lexeme : Lexeme) (code : Code) → IsNoName X5 X5 lexeme code
       → declaration_tests set (wants_name place) lexeme (stops code)
   name_fails place lexeme code bad =
-      Named-fails X5 X5 (Test (IsNewName set lexeme.text) U5 (Test (HasPlace set) U6 (Goes (wants_parenthesis place lexeme.text)))) lexeme code bad
+      Named-fails X5 X5 (Test (IsNewRelationName set lexeme.text) U5 (Test (HasPlace set) U6 (Goes (wants_parenthesis place lexeme.text)))) lexeme code bad
 
   pub name_is_old : (from : ℕ) (place : Place) (token : Token) (text : List ℕ) → StandsNext bytes from token (record { kind = Name; text = text })
-      → text ≢ codes "exists" → length text ≤ 64 → ¬ (IsNewName set text)
+      → text ≢ codes "exists" → length text ≤ 64 → ¬ (IsNewRelationName set text)
       → Fails (declaration_tests set) bytes from (wants_name place) (record { code = U5; place = token.start })
   name_is_old from place token text stands other short old =
       Fails-token (declaration_tests set) bytes from (wants_name place) token (record { kind = Name; text = text }) U5 stands
       (inl (refl, inl (other, inl (short, inr (old, refl)))))
 
   pub no_place : (from : ℕ) (place : Place) (token : Token) (text : List ℕ) → StandsNext bytes from token (record { kind = Name; text = text })
-      → text ≢ codes "exists" → length text ≤ 64 → IsNewName set text → ¬ (HasPlace set)
+      → text ≢ codes "exists" → length text ≤ 64 → IsNewRelationName set text → ¬ (HasPlace set)
       → Fails (declaration_tests set) bytes from (wants_name place) (record { code = U6; place = token.start })
   no_place from place token text stands other short new full =
       Fails-token (declaration_tests set) bytes from (wants_name place) token (record { kind = Name; text = text }) U6 stands

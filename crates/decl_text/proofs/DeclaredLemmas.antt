@@ -3,19 +3,20 @@ use Rattle.std.proofs.Common.{◌≡◌, ◌⊎◌, inl, inr, ℕ, ◌+◌, ◌�
 use Rattle.rule_core.specs.declared.rules.Place.{Place}
 use Rattle.rule_core.specs.declared.rules.Place.TheVariants.{Source, Target}
 use Rattle.rule_core.specs.declared.rules.Relation.{Relation}
+use Rattle.rule_core.specs.Adding.{IsNewRelationName}
 use Rattle.rule_core.specs.Mapping.{RuleSet}
 use Rattle.decl_text.specs.declared.token.Kind.TheVariants.{LeftParen, RightParen, Comma, Finish}
 use Rattle.decl_text.specs.declared.fault.Code.TheVariants.{X5}
 use Rattle.decl_text.specs.declared.fault.MappingFault.{MappingFault}
 use Rattle.decl_text.specs.Tests.{Lexeme, Outcome, goes, IsFinal, Leads}
-use Rattle.decl_text.specs.Declaration.{IsNewName, with_column, DeclarationPosition, begins, wants_name, wants_parenthesis, wants_column, wants_comma, wants_line_end, declared, declaration_tests, IsDeclaration, FailsDeclaration}
+use Rattle.decl_text.specs.Declaration.{with_column, DeclarationPosition, begins, wants_name, wants_parenthesis, wants_column, wants_comma, wants_line_end, declared, declaration_tests, IsDeclaration, FailsDeclaration}
 use Rattle.decl_text.proofs.SomeLemmas.{Decided, Some, same_kind, same_text, both, denied, less, each, there, is_keyword, ends_line, Goes-some, Stops-some, When-some, Test-some, Named-some}
 use Rattle.decl_text.proofs.DeclarationLemmas.{IsOpen, declaration_wants}
 use Rattle.decl_text.proofs.DecidedLemmas.{declared_final}
 use Rattle.decl_text.proofs.PassLemmas.{Test-next, Goes-next}
 use Rattle.decl_text.proofs.WholeLemmas.{AreWhole, Ends, read_to_an_end, finish_leads}
 
-new_name : (rules : RuleSet) (name : List ℕ) → Decided (IsNewName rules name)
+new_name : (rules : RuleSet) (name : List ℕ) → Decided (IsNewRelationName rules name)
 new_name rules name =
     both (each (λ (r : Relation). r.name ≢ name) (λ r. denied (same_text r.name name)) rules.sources)
     (each (λ (r : Relation). r.name ≢ name) (λ r. denied (same_text r.name name)) rules.targets)

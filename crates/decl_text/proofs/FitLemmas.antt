@@ -9,13 +9,13 @@ use Rattle.rule_core.specs.declared.rules.Relation.{Relation}
 use Rattle.rule_core.specs.Mapping.{RuleSet}
 use Rattle.rule_core.specs.Names.{IsName}
 use Rattle.rule_core.specs.Validity.{AreDistinct, IsValid}
-use Rattle.rule_core.specs.Adding.{with_relation}
+use Rattle.rule_core.specs.Adding.{with_relation, IsNewRelationName}
 use Rattle.rule_core.proofs.ValidityLemmas.{with_relation-valid}
 use Rattle.decl_text.specs.declared.token.Kind.{Kind}
 use Rattle.decl_text.specs.declared.token.Kind.TheVariants.{Name, Quoted}
 use Rattle.decl_text.specs.declared.token.Token.{Token}
 use Rattle.decl_text.specs.Tests.{Lexeme, goes, Says, Pass}
-use Rattle.decl_text.specs.Declaration.{EndsLine, IsNewName, HasPlace, with_column, DeclarationPosition, begins, wants_name, wants_parenthesis, wants_column, wants_comma, wants_line_end, declared, declaration_tests, IsDeclaration}
+use Rattle.decl_text.specs.Declaration.{EndsLine, HasPlace, with_column, DeclarationPosition, begins, wants_name, wants_parenthesis, wants_column, wants_comma, wants_line_end, declared, declaration_tests, IsDeclaration}
 use Rattle.decl_text.proofs.PassLemmas.{IsLexeme, Pass-keeps, Pass-each, Goes-next, Test-next, Named-next}
 
 -- a text that the list doesn't have is none of its texts
@@ -40,7 +40,7 @@ module _ (rules : RuleSet) where
   -- the name is one, and new, and there is place for a relation
   pub record HasNewName (name : List ℕ) : Type 0 where
     pub is : IsName name
-    pub new : IsNewName rules name
+    pub new : IsNewRelationName rules name
     pub place : HasPlace rules
 
   -- the columns so far
@@ -132,9 +132,8 @@ declared_fits bytes rules from place relation to valid line =
         columns = fits.0.columns.each;
         distinct = fits.0.columns.distinct;
       };
-      place = fits.0.name.place;
-      new_source = fits.0.name.new.0;
-      new_target = fits.0.name.new.1;
+      room = fits.0.name.place;
+      name = fits.0.name.new;
     })
 
 -- a name is in no quotes, and no sign is

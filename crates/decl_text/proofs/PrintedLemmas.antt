@@ -61,7 +61,7 @@ length_seam done x more all n e most =
 abbrev so_far : Relation → List (List ℕ) → Relation
 so_far relation columns = record relation { columns = columns }
 
-module _ (rules : RuleSet) (place : Place) (relation : Relation) (new : IsNewRelation rules.sources rules.targets relation) where
+module _ (rules : RuleSet) (place : Place) (relation : Relation) (new : IsNewRelation rules relation) where
   column_written : (done : List (List ℕ)) (x : List ℕ) (more : List (List ℕ)) → done ++ x ∷ more ≡ relation.columns
       → (gap : List ℕ) → AreBlanks gap
       → Written (declaration_tests rules) EndsWord (wants_column place (so_far relation done)) (gap ++ x) (wants_comma place (so_far relation (done ++ x ∷ [])))
@@ -111,7 +111,7 @@ module _ (rules : RuleSet) (place : Place) (relation : Relation) (new : IsNewRel
   name_written =
       word_written (declaration_tests rules) (wants_name place) (wants_parenthesis place relation.name) (32 ∷ []) relation.name one_blank
       (word_of_name relation.name new.valid.name)
-      (inl (refl, inl (new.valid.name.word, inl (new.valid.name.most, inl ((new.new_source, new.new_target), inl (new.place, refl))))))
+      (inl (refl, inl (new.valid.name.word, inl (new.valid.name.most, inl (new.name, inl (new.room, refl))))))
 
   opened_written : Written (declaration_tests rules) Always (wants_parenthesis place relation.name) (40 ∷ []) (wants_column place (so_far relation []))
   opened_written =

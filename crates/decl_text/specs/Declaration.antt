@@ -1,8 +1,10 @@
 -- The line that declares a relation, `source A(x, y)` or `target A(x, y)`: the tests of each of its tokens.
-use Rattle.std.specs.Prelude.{◌≡◌, ◌≢◌, ◌⊎◌, ℕ, ◌+◌, ◌<◌, ◌≤◌, List, [], ◌∷◌, ◌++◌, codes, length, All, Contains}
+use Rattle.std.specs.Prelude.{◌≡◌, ◌≢◌, ◌⊎◌, ℕ, ◌+◌, ◌<◌, ◌≤◌, List, [], ◌∷◌, ◌++◌, codes, length, Contains}
 use Rattle.rule_core.specs.declared.rules.Place.{Place}
 use Rattle.rule_core.specs.declared.rules.Place.TheVariants.{Source, Target}
 use Rattle.rule_core.specs.declared.rules.Relation.{Relation}
+use Rattle.rule_core.specs.Adding.{IsNewRelationName}
+use Rattle.rule_core.specs.Limits.{most_relations, most_columns, longest_name}
 use Rattle.rule_core.specs.Mapping.{RuleSet}
 use Rattle.decl_text.specs.declared.token.Kind.TheVariants.{Name, LeftParen, RightParen, Comma, LineEnd, Finish}
 use Rattle.decl_text.specs.declared.fault.Code.{Code}
@@ -14,9 +16,9 @@ use Rattle.decl_text.specs.Tests.{Lexeme, Outcome, Goes, Stops, When, Test, Lead
 abbrev pub IsKeyword : Lexeme → List ℕ → Type 0
 IsKeyword token word = (token.kind ≡ Name) × (token.text ≡ word)
 
--- a name has at most 64 bytes
+-- a name is no longer than the longest
 abbrev pub IsShort : Lexeme → Type 0
-IsShort token = length token.text ≤ 64
+IsShort token = length token.text ≤ longest_name
 
 -- a name is wanted: a token of another kind has the first number, and the word `exists`, which is no name, the second
 abbrev pub Named : {P : Type 0} → Code → Code → Lexeme → (Outcome P → Type 0) → Outcome P → Type 0
@@ -30,13 +32,9 @@ Named wrong word token further =
 abbrev pub EndsLine : Lexeme → Type 0
 EndsLine token = (token.kind ≡ LineEnd) ⊎ (token.kind ≡ Finish)
 
--- no relation of either side has the name
-abbrev pub IsNewName : RuleSet → List ℕ → Type 0
-IsNewName rules name = All (λ r. r.name ≢ name) rules.sources × All (λ r. r.name ≢ name) rules.targets
-
--- there are fewer than 64 relations
+-- there may be one more relation
 abbrev pub HasPlace : RuleSet → Type 0
-HasPlace rules = length rules.sources + length rules.targets < 64
+HasPlace rules = length rules.sources + length rules.targets < most_relations
 
 -- the relation with one more column, as the last
 abbrev pub with_column : Relation → List ℕ → Relation
@@ -60,7 +58,7 @@ declaration_tests rules begins token =
     (Stops X5))
 declaration_tests rules (wants_name place) token =
     Named X5 X5 token
-    (Test (IsNewName rules token.text) U5
+    (Test (IsNewRelationName rules token.text) U5
     (Test (HasPlace rules) U6
     (Goes (wants_parenthesis place token.text))))
 declaration_tests rules (wants_parenthesis place name) token =
@@ -69,7 +67,7 @@ declaration_tests rules (wants_parenthesis place name) token =
 declaration_tests rules (wants_column place relation) token =
     Named X5 X5 token
     (Test (¬ Contains relation.columns token.text) U5
-    (Test (length relation.columns < 16) U6
+    (Test (length relation.columns < most_columns) U6
     (Goes (wants_comma place (with_column relation token.text)))))
 declaration_tests rules (wants_comma place relation) token =
     When (token.kind ≡ Comma) (Goes (wants_column place relation))

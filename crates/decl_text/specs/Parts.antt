@@ -1,5 +1,6 @@
 -- The next token with its text, and what a line's reader says of one that isn't what it wants.
 use Rattle.std.specs.Prelude.{◌≡◌, ◌≢◌, ◌⊎◌, ℕ, ◌<◌, List, codes, length}
+use Rattle.rule_core.specs.Limits.{longest_name}
 use Rattle.decl_text.specs.declared.token.Kind.{Kind}
 use Rattle.decl_text.specs.declared.token.Kind.TheVariants.{Name}
 use Rattle.decl_text.specs.declared.token.Token.{Token}
@@ -28,4 +29,4 @@ abbrev pub IsNoName : Code → Code → Lexeme → Code → Type 0
 IsNoName wrong word lexeme code =
     ((lexeme.kind ≢ Name) × (code ≡ wrong))
     ⊎ ((lexeme.kind ≡ Name) × (lexeme.text ≡ codes "exists") × (code ≡ word))
-    ⊎ ((lexeme.kind ≡ Name) × (lexeme.text ≢ codes "exists") × (64 < length lexeme.text) × (code ≡ U6))
+    ⊎ ((lexeme.kind ≡ Name) × (lexeme.text ≢ codes "exists") × (longest_name < length lexeme.text) × (code ≡ U6))

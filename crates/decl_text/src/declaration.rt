@@ -4,23 +4,19 @@ ghost use Rattle.std.specs.Prelude.{◌≡◌, ◌↔◌, ℕ, ◌<◌, ◌≤�
 ghost use Rattle.rule_core.specs.declared.rules.Place.{Place as PlaceValue};
 ghost use Rattle.rule_core.specs.declared.rules.Relation.{Relation as RelationValue};
 ghost use Rattle.rule_core.specs.Adding.{with_relation};
+ghost use Rattle.rule_core.specs.Limits.{most_columns};
 ghost use Rattle.rule_core.specs.Mapping.{RuleSet};
 ghost use Rattle.rule_core.specs.Validity.{IsValid};
-ghost use Rattle.decl_text.specs.Declaration.{begins, wants_name, wants_parenthesis, wants_column, wants_comma, wants_line_end, declared, declaration_tests, IsNewName, HasPlace, IsDeclaration, FailsDeclaration};
+ghost use Rattle.decl_text.specs.Declaration.{begins, wants_name, wants_parenthesis, wants_column, wants_comma, wants_line_end, declared, declaration_tests, HasPlace, IsDeclaration, FailsDeclaration};
 ghost use Rattle.decl_text.specs.Tests.{Leads, Fails, IfFault};
 
 use crate::laws::what_is_declared_fits;
 use crate::parts::{Name, fault_at, is_word, read_name, read_sign, read_token};
 use crate::{Code, Kind, ReadError};
+use rule_core::limits::{MOST_COLUMNS, MOST_RELATIONS};
 use rule_core::{Place, Relation, Rules};
 use std::alloc::Global;
 use term_core::{Items, Text};
-
-/// The most columns of a relation.
-const MOST_COLUMNS: usize = 16;
-
-/// The most relations of both sides together.
-const MOST_RELATIONS: usize = 64;
 
 /// A line that begins with `source` or `target`: the side, the relation, and the place after the line. The relation
 /// may be added to the rules. A fault is the first of the line, at its byte.
@@ -85,23 +81,13 @@ fn read_relation_name(
         (Fails (declaration_tests rules.now) bytes.now from (wants_name place)) }
 {
     let name = read_name(alloc, bytes, from, Code::X5, Code::X5)?;
-    if !is_new(rules, &name.text) {
+    if !rules.is_new_relation_name(&name.text) {
         return Err(fault_at(Code::U5, &name.token));
     }
     if !has_place(rules) {
         return Err(fault_at(Code::U6, &name.token));
     }
     Ok(name)
-}
-
-// Whether no relation has the name.
-fn is_new(rules: &Rules, name: &Text) -> bool
-    ensures { IsTrue result ↔ IsNewName rules.now name.now }
-{
-    match rules.find(name.as_str()) {
-        Some(_) => false,
-        None => true,
-    }
 }
 
 // Whether there may be one more relation.
@@ -150,7 +136,7 @@ fn read_column(
         (λ column. Leads (declaration_tests rules) bytes.now
         from (wants_column place (record { name = name; columns = columns.now })) column.token.end
         (wants_comma place (record { name = name; columns = columns.now ++ column.text ∷ [] }))) }
-    ensures most { IfOk result (λ column. length columns.now < MOST_COLUMNS) }
+    ensures most { IfOk result (λ column. length columns.now < most_columns) }
     ensures within { IfOk result (λ column. column.token.end ≤ length bytes.now) }
     ensures fault { (rules : RuleSet) (place : PlaceValue) (name : List ℕ) → IfFault result
         (Fails (declaration_tests rules) bytes.now

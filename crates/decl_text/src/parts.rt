@@ -1,6 +1,7 @@
 //! What lines are read by: the next token with its text, a sign, a name.
 
 ghost use Rattle.std.specs.Prelude.{◌≡◌, ◌≢◌, ◌↔◌, ℕ, ◌-◌, ◌≤◌, [], List, codes, length, take, drop, IsTrue, IfOk, IfErr};
+ghost use Rattle.rule_core.specs.Limits.{longest_name};
 ghost use Rattle.decl_text.specs.declared.token.Kind.TheVariants as kinds;
 ghost use Rattle.decl_text.specs.declared.fault.ReadError.TheVariants as errors;
 ghost use Rattle.decl_text.specs.Declaration.{IsKeyword};
@@ -9,12 +10,10 @@ ghost use Rattle.decl_text.specs.Tests.{Lexeme, IfFault};
 ghost use Rattle.decl_text.specs.Tokens.{IsWord, IsNextToken, IsNextFault};
 
 use crate::{Code, Kind, MappingFault, ReadError, Token, next_token};
+use rule_core::limits::LONGEST_NAME;
 use std::alloc::Global;
 use std::str;
 use term_core::{Memory, Text};
-
-/// The longest name, in bytes.
-pub const LONGEST_NAME: usize = 64;
 
 /// A name that stands in a line.
 #[derive(Debug, Drop)]
@@ -65,7 +64,7 @@ pub fn read_sign(bytes: &[u8], from: usize, sign: Kind, wrong: Code) -> Result<u
 }
 
 /// The next token as a name. A token of another kind has the fault `wrong`, the word `exists` the fault `word`, and
-/// a name of more than 64 bytes is too long.
+/// a name that is longer than the longest has its own.
 pub fn read_name(
     alloc: Global,
     bytes: &[u8],
@@ -77,7 +76,7 @@ pub fn read_name(
     ensures stands { IfOk result (λ name. StandsNext bytes.now from name.token
         (record { kind = kinds.Name; text = name.text })) }
     ensures other { IfOk result (λ name. name.text ≢ codes "exists") }
-    ensures short { IfOk result (λ name. length name.text ≤ 64) }
+    ensures short { IfOk result (λ name. length name.text ≤ longest_name) }
     ensures within { IfOk result (λ name. name.token.end ≤ length bytes.now) }
     ensures fault { IfFault result (FailsAt bytes.now from (IsNoName wrong word)) }
 {

@@ -5,6 +5,8 @@ use Rattle.rule_core.specs.declared.rules.Relation.{Relation}
 use Rattle.rule_core.specs.declared.rules.Tgd.{Tgd}
 use Rattle.rule_core.specs.declared.rules.Egd.{Egd}
 use Rattle.rule_core.specs.declared.rules.Query.{Query}
+use Rattle.rule_core.specs.Limits.{most_tgds, most_egds, most_queries}
+use Rattle.rule_core.proofs.ValidityLemmas.{front_names}
 use Rattle.rule_core.specs.Mapping.{rules_of}
 use Rattle.rule_core.specs.Validity.{IsRelation, IsTgd, IsEgd, IsQuery, IsValid}
 use Rattle.rule_core.proofs.ListLemmas.{AllPairs-nil, AllPairs-cons, AllPairs-head, AllPairs-tail}
@@ -40,9 +42,7 @@ valid_relations s s' t t' tgds egds queries valid = record {
     egds = All-nil (IsEgd t);
     most_tgds = omega arith;
     most_egds = omega arith;
-    tgd_names = AllPairs-nil (λ (a b : Tgd). a.name ≢ b.name);
-    egd_names = AllPairs-nil (λ (a b : Egd). a.name ≢ b.name);
-    kinds = All-nil (λ (a : Tgd). All (λ (b : Egd). a.name ≢ b.name) []);
+    names = AllPairs-nil (λ (a b : List ℕ). a ≢ b);
   };
   queries = record {
     each = All-nil (IsQuery t);
@@ -60,17 +60,13 @@ valid_rules s t g g' e e' q q' valid = record {
   rules = record {
     tgds = All-part (IsTgd s t) g g' valid.rules.tgds;
     egds = All-part (IsEgd t) e e' valid.rules.egds;
-    most_tgds = no_more g g' 256 valid.rules.most_tgds;
-    most_egds = no_more e e' 256 valid.rules.most_egds;
-    tgd_names = AllPairs-part (λ (a b : Tgd). a.name ≢ b.name) g g' valid.rules.tgd_names;
-    egd_names = AllPairs-part (λ (a b : Egd). a.name ≢ b.name) e e' valid.rules.egd_names;
-    kinds = All-weaker (λ (a : Tgd). All (λ (b : Egd). a.name ≢ b.name) (e ++ e')) (λ (a : Tgd). All (λ (b : Egd). a.name ≢ b.name) e)
-        (λ a h. All-part (λ (b : Egd). a.name ≢ b.name) e e' h) g
-        (All-part (λ (a : Tgd). All (λ (b : Egd). a.name ≢ b.name) (e ++ e')) g g' valid.rules.kinds);
+    most_tgds = no_more g g' most_tgds valid.rules.most_tgds;
+    most_egds = no_more e e' most_egds valid.rules.most_egds;
+    names = front_names (rules_of s t g e q) g g' e e' valid.rules.names;
   };
   queries = record {
     each = All-part (IsQuery t) q q' valid.queries.each;
-    most = no_more q q' 64 valid.queries.most;
+    most = no_more q q' most_queries valid.queries.most;
     names = AllPairs-part (λ (a b : Query). a.name ≢ b.name) q q' valid.queries.names;
   };
 }

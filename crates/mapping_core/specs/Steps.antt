@@ -1,6 +1,7 @@
 -- What is known of a mapping's text after some of its lines. No public clause cites this module.
 use Rattle.std.specs.Prelude.{◌⊎◌, ◌↔◌, ℕ, ◌<◌, ◌≤◌, List, length, Contains}
 use Rattle.term_core.specs.declared.const_id.ConstId.{ConstId}
+use Rattle.rule_core.specs.Limits.{longest_constant}
 use Rattle.rule_core.specs.Mapping.{RuleSet}
 use Rattle.decl_text.specs.declared.token.Kind.TheVariants.{Quoted}
 use Rattle.decl_text.specs.declared.token.Token.{Token}
@@ -25,7 +26,7 @@ pub record Gathers (bytes : List ℕ) (texts : List (List ℕ)) (place : ℕ) : 
 pub record ReadsTo (bytes : List ℕ) (pool : List (List ℕ)) (place : ℕ) (rules : RuleSet) : Type 0 where
   pub lines : Leads (mapping_tests pool) bytes 0 (at_line no_rules) place (at_line rules)
   pub quoted : (text : List ℕ) → IsQuotedFrom bytes 0 text ↔ (IsConstantText rules pool text ⊎ IsQuotedFrom bytes place text)
-  pub short : (text : List ℕ) → IsConstantText rules pool text → length text ≤ 4096
+  pub short : (text : List ℕ) → IsConstantText rules pool text → length text ≤ longest_constant
   pub there : (constant : ConstId) → AnyHasConstant rules constant → constant.0 < length pool
 
 -- a line of a rule begins here

@@ -28,7 +28,7 @@ impl Model for Mapping {
 
 impl Mapping {
     /// The facts that the type keeps.
-    pub fn is_whole(&self)
+    pub fn is_kept(&self)
         ensures constants { HasItsConstants self.now.rules self.now.pool }
     {
         let _ = &self.rules;

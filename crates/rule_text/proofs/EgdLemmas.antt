@@ -20,7 +20,7 @@ use Rattle.rule_text.proofs.TurnLemmas.{known, numbered_turns}
 use Rattle.rule_text.proofs.AtomLemmas.{said_of, Names, IsShortText, atom_begins, atoms_written}
 
 module _ (rules : RuleSet) (pool : List (List ℕ)) (egd : EgdValue) (relations : AreRelations rules.sources rules.targets) (is_pool : IsPool pool)
-    (texts : All IsUtf8 pool) (new : IsNewEgd rules.targets rules.tgds rules.egds egd) where
+    (texts : All IsUtf8 pool) (new : IsNewEgd rules egd) where
   names : Names rules pool egd.vars
   names = record { relations = relations; variables = new.valid.vars; is_pool = is_pool; texts = texts }
 
@@ -118,7 +118,7 @@ module _ (rules : RuleSet) (pool : List (List ℕ)) (egd : EgdValue) (relations 
       refl
       (Written-next tests Always wants_egd_name (32 ∷ egd.name) (wants_colon frame) 58 (32 ∷ text) last
       (word_written tests wants_egd_name (wants_colon frame) (32 ∷ []) egd.name one_blank (word_of_name egd.name name)
-      (inl (refl, inl (name.word, inl (name.most, inl (new.name, inl (new.place, refl)))))))
+      (inl (refl, inl (name.word, inl (name.most, inl (new.name, inl (new.room, refl)))))))
       refl
       (Written-then tests Always (wants_colon frame) (58 ∷ []) (wants_atom frame (said_of egd.vars 0 [])) (32 ∷ text) last
       (sign_written tests (wants_colon frame) (wants_atom frame (said_of egd.vars 0 [])) [] (58 ∷ []) Colon no_blank (λ rest. refl)

@@ -7,10 +7,11 @@ use Rattle.rule_core.specs.declared.rules.Arg.{Arg}
 use Rattle.rule_core.specs.declared.rules.Arg.TheVariants.{Var, Const}
 use Rattle.rule_core.specs.declared.rules.Atom.{Atom}
 use Rattle.rule_core.specs.declared.rules.Branch.{Branch}
+use Rattle.rule_core.specs.Limits.{most_tgds, most_egds, most_queries}
 use Rattle.rule_core.specs.Mapping.{RuleSet}
 use Rattle.rule_core.specs.Names.{IsName}
 use Rattle.rule_core.specs.Validity.{AreNumbered, occurrences, AreAtoms, AreVariables, IsBranch, IsValid}
-use Rattle.rule_core.specs.Adding.{relations_of, IsNewRuleName, IsNewTgd, IsNewEgd, IsNewQuery}
+use Rattle.rule_core.specs.Adding.{relations_of, IsNewRuleName, IsNewQueryName, IsNewTgd, IsNewEgd, IsNewQuery}
 use Rattle.rule_core.proofs.ValidityLemmas.{with_tgd-valid, with_egd-valid, with_query-valid}
 use Rattle.decl_text.specs.Tests.{Lexeme, goes}
 use Rattle.decl_text.proofs.PassLemmas.{IsLexeme, Pass-keeps, Goes-next, Test-next, Named-next}
@@ -25,18 +26,18 @@ module _ (rules : RuleSet) where
   -- the name of a tgd, an egd or a query, which is new, and there is place for one more
   pub record TgdNameFits (name : List ℕ) : Type 0 where
     pub is : IsName name
-    pub new : IsNewRuleName rules.tgds rules.egds name
-    pub place : length rules.tgds < 256
+    pub new : IsNewRuleName rules name
+    pub room : length rules.tgds < most_tgds
 
   pub record EgdNameFits (name : List ℕ) : Type 0 where
     pub is : IsName name
-    pub new : IsNewRuleName rules.tgds rules.egds name
-    pub place : length rules.egds < 256
+    pub new : IsNewRuleName rules name
+    pub room : length rules.egds < most_egds
 
   pub record QueryNameFits (name : List ℕ) : Type 0 where
     pub is : IsName name
-    pub new : All (λ q. q.name ≢ name) rules.queries
-    pub place : length rules.queries < 64
+    pub new : IsNewQueryName rules name
+    pub room : length rules.queries < most_queries
 
   -- a query's name with its head variables so far
   pub record QueryHeadFits (name : List ℕ) (head : List (List ℕ)) : Type 0 where
@@ -67,9 +68,9 @@ module _ (rules : RuleSet) where
     pub width : FitsWidth (relations_of rules (side_of frame)) atom
 
   abbrev IsNewRule : Rule → Type 0
-  IsNewRule (Tgd tgd) = IsNewTgd rules.sources rules.targets rules.tgds rules.egds tgd
-  IsNewRule (Egd egd) = IsNewEgd rules.targets rules.tgds rules.egds egd
-  IsNewRule (Query query) = IsNewQuery rules.targets rules.queries query
+  IsNewRule (Tgd tgd) = IsNewTgd rules tgd
+  IsNewRule (Egd egd) = IsNewEgd rules egd
+  IsNewRule (Query query) = IsNewQuery rules query
 
   -- what holds where a line stands
   abbrev Fits : RulePosition → Type 0
@@ -114,7 +115,7 @@ module _ (rules : RuleSet) where
         let new = Test-next name.1 in
         let room = Test-next new.1 in
         subst Fits (Goes-next (wants_colon (body_of_tgd lexeme.text)) next room.1)
-        (record { is = name.0; new = new.0; place = room.0 }, body_none rules.sources)
+        (record { is = name.0; new = new.0; room = room.0 }, body_none rules.sources)
 
     egd_named : (next : RulePosition) (lexeme : Lexeme) → IsLexeme lexeme → rule_tests rules pool wants_egd_name lexeme (goes next) → Fits next
     egd_named next lexeme is h =
@@ -122,7 +123,7 @@ module _ (rules : RuleSet) where
         let new = Test-next name.1 in
         let room = Test-next new.1 in
         subst Fits (Goes-next (wants_colon (body_of_egd lexeme.text)) next room.1)
-        (record { is = name.0; new = new.0; place = room.0 }, body_none rules.targets)
+        (record { is = name.0; new = new.0; room = room.0 }, body_none rules.targets)
 
     query_named : (next : RulePosition) (lexeme : Lexeme) → IsLexeme lexeme → rule_tests rules pool wants_query_name lexeme (goes next)
         → Fits next
@@ -130,7 +131,7 @@ module _ (rules : RuleSet) where
         let name = Named-next lexeme is h in
         let new = Test-next name.1 in
         let room = Test-next new.1 in
-        subst Fits (Goes-next (wants_head_parenthesis lexeme.text) next room.1) (record { is = name.0; new = new.0; place = room.0 })
+        subst Fits (Goes-next (wants_head_parenthesis lexeme.text) next room.1) (record { is = name.0; new = new.0; room = room.0 })
 
     -- the head of a query
     no_head : (name : List ℕ) → QueryNameFits name → QueryHeadFits name []
@@ -263,7 +264,7 @@ module _ (rules : RuleSet) where
     tgd_stated : (name : List ℕ) (body : List Atom) (body_vars : ℕ) (said : Said) → Fits (after_atom (head_of_tgd name body body_vars) said)
         → IsNewRule (Tgd (record { name = name; vars = said.vars; body_vars = body_vars; body = body; head = said.atoms }))
     tgd_stated name body body_vars said fits = record {
-      place = fits.0.0.place;
+      room = fits.0.0.room;
       valid = record {
         name = fits.0.0.is;
         vars = fits.1.vars;
@@ -279,7 +280,7 @@ module _ (rules : RuleSet) where
     query_stated : (name : List ℕ) (head : List (List ℕ)) (branches : List Branch) (branch : Branch) → FrameFits (disjunct_of name head branches)
         → IsBranch rules.targets head branch → IsNewRule (Query (record { name = name; head = head; branches = branches ++ branch ∷ [] }))
     query_stated name head branches branch fits one = record {
-      place = fits.0.name_fits.place;
+      room = fits.0.name_fits.room;
       valid = record {
         name = fits.0.name_fits.is;
         head = fits.0.names.each;
@@ -375,7 +376,7 @@ module _ (rules : RuleSet) where
         subst Fits
         (Goes-next (wants_line_end (Egd (record { name = name; vars = said.vars; body = said.atoms; left = left; right = found.0 }))) next found.2)
         (record {
-          place = fits.0.place;
+          room = fits.0.room;
           valid = record {
             name = fits.0.is;
             vars = fits.1.vars;

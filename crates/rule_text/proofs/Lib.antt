@@ -17,3 +17,4 @@ pub mod AtomSteps
 pub mod NameLemmas
 pub mod RuleLemmas
 pub mod QuerySteps
+pub mod OutcomeLemmas

@@ -117,7 +117,7 @@ module _ (rules : RuleSet) (pool : List (List ℕ)) where
       (λ e. cc, λ e. cc) (inr (λ e. cc, inl (refl, refl)))) then)
 
 module _ (rules : RuleSet) (pool : List (List ℕ)) (query : QueryValue) (relations : AreRelations rules.sources rules.targets)
-    (is_pool : IsPool pool) (texts : All IsUtf8 pool) (new : IsNewQuery rules.targets rules.queries query)
+    (is_pool : IsPool pool) (texts : All IsUtf8 pool) (new : IsNewQuery rules query)
     (textual : All (λ branch. AreTextual pool IsShortText branch.body) query.branches) where
   abbrev frame_after : List Branch → Frame
   frame_after done = disjunct_of query.name query.head done
@@ -223,7 +223,7 @@ module _ (rules : RuleSet) (pool : List (List ℕ)) (query : QueryValue) (relati
       refl
       (Written-next tests Always wants_query_name (32 ∷ query.name) (wants_head_parenthesis query.name) 40 heads last
       (word_written tests wants_query_name (wants_head_parenthesis query.name) (32 ∷ []) query.name one_blank (word_of_name query.name name)
-      (inl (refl, inl (name.word, inl (name.most, inl (new.name, inl (new.place, refl)))))))
+      (inl (refl, inl (name.word, inl (name.most, inl (new.name, inl (new.room, refl)))))))
       refl
       (Written-then tests Always (wants_head_parenthesis query.name) (40 ∷ []) (wants_head query.name) heads last
       (sign_written tests (wants_head_parenthesis query.name) (wants_head query.name) [] (40 ∷ []) LeftParen no_blank (λ rest. refl)

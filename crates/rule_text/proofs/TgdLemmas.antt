@@ -22,7 +22,7 @@ use Rattle.rule_text.proofs.TurnLemmas.{known, numbered_turns, within_turns, occ
 use Rattle.rule_text.proofs.AtomLemmas.{said_of, Names, IsShortText, Begins, atom_begins, atoms_written}
 
 module _ (rules : RuleSet) (pool : List (List ℕ)) (tgd : TgdValue) (relations : AreRelations rules.sources rules.targets) (is_pool : IsPool pool)
-    (texts : All IsUtf8 pool) (new : IsNewTgd rules.sources rules.targets rules.tgds rules.egds tgd) where
+    (texts : All IsUtf8 pool) (new : IsNewTgd rules tgd) where
   names : Names rules pool tgd.vars
   names = record { relations = relations; variables = new.valid.vars; is_pool = is_pool; texts = texts }
 
@@ -184,7 +184,7 @@ module _ (rules : RuleSet) (pool : List (List ℕ)) (tgd : TgdValue) (relations 
       refl
       (Written-next tests Always wants_tgd_name (32 ∷ tgd.name) (wants_colon frame) 58 (32 ∷ text) last
       (word_written tests wants_tgd_name (wants_colon frame) (32 ∷ []) tgd.name one_blank (word_of_name tgd.name name)
-      (inl (refl, inl (name.word, inl (name.most, inl (new.name, inl (new.place, refl)))))))
+      (inl (refl, inl (name.word, inl (name.most, inl (new.name, inl (new.room, refl)))))))
       refl
       (Written-then tests Always (wants_colon frame) (58 ∷ []) (wants_atom frame (said_of tgd.vars 0 [])) (32 ∷ text) last
       (sign_written tests (wants_colon frame) (wants_atom frame (said_of tgd.vars 0 [])) [] (58 ∷ []) Colon no_blank (λ rest. refl)

@@ -4,6 +4,7 @@ use Rattle.rule_core.specs.declared.rules.Atom.{Atom}
 use Rattle.rule_core.specs.declared.rules.Place.{Place}
 use Rattle.rule_core.specs.declared.rules.Relation.{Relation}
 use Rattle.rule_core.specs.Adding.{relations_of}
+use Rattle.rule_core.specs.Limits.{longest_constant}
 use Rattle.rule_core.specs.Mapping.{RuleSet}
 use Rattle.decl_text.specs.declared.fault.Code.{Code}
 use Rattle.decl_text.specs.declared.fault.Code.TheVariants.{U1, U3, U6}
@@ -55,9 +56,9 @@ IsMissing rules side name code =
 -- the token is a constant of the pool, which has this number
 abbrev pub IsConstant : List (List ℕ) → List ℕ → Token → ℕ → Type 0
 IsConstant pool bytes token number = (text : List ℕ)
-    × Says bytes token (record { kind = Quoted; text = text }) × (length text ≤ 4096) × IsFirstAt pool text number
+    × Says bytes token (record { kind = Quoted; text = text }) × (length text ≤ longest_constant) × IsFirstAt pool text number
 
 -- the token is a text in quotes that is too long
 abbrev pub IsLong : List ℕ → Token → MappingFault → Type 0
 IsLong bytes token fault = (text : List ℕ)
-    × Says bytes token (record { kind = Quoted; text = text }) × (4096 < length text) × (fault ≡ record { code = U6; place = token.start })
+    × Says bytes token (record { kind = Quoted; text = text }) × (longest_constant < length text) × (fault ≡ record { code = U6; place = token.start })

@@ -1,5 +1,5 @@
 -- The line of a tgd, an egd or a query: the tests of each of its tokens.
-use Rattle.std.specs.Prelude.{◌≡◌, ◌≢◌, ◌⊎◌, ℕ, ◌<◌, ◌≤◌, List, [], ◌∷◌, ◌++◌, codes, length, take, All, Any, Contains, slice_get, Some}
+use Rattle.std.specs.Prelude.{◌≡◌, ◌≢◌, ◌⊎◌, ℕ, ◌-◌, ◌<◌, ◌≤◌, List, [], ◌∷◌, ◌++◌, codes, length, take, All, Any, Contains, slice_get, Some}
 use Rattle.std.specs.List.{AllZip}
 use Rattle.rule_core.specs.declared.rules.Place.{Place}
 use Rattle.rule_core.specs.declared.rules.Place.TheVariants.{Source, Target}
@@ -9,7 +9,8 @@ use Rattle.rule_core.specs.declared.rules.Arg.TheVariants.{Var, Const}
 use Rattle.rule_core.specs.declared.rules.Atom.{Atom}
 use Rattle.rule_core.specs.declared.rules.Branch.{Branch}
 use Rattle.rule_core.specs.Mapping.{RuleSet}
-use Rattle.rule_core.specs.Adding.{relations_of, IsNewRuleName}
+use Rattle.rule_core.specs.Adding.{relations_of, IsNewRuleName, IsNewQueryName}
+use Rattle.rule_core.specs.Limits.{most_tgds, most_egds, most_queries, most_atoms, most_variables, most_head_variables, most_disjuncts, longest_constant}
 use Rattle.decl_text.specs.declared.token.Kind.TheVariants.{Quoted, LeftParen, RightParen, Comma, Colon, Arrow, Equals, Bar}
 use Rattle.decl_text.specs.declared.fault.Code.{Code}
 use Rattle.decl_text.specs.declared.fault.Code.TheVariants.{X5, X6, X7, X8, X9, U1, U2, U3, U4, U5, U6}
@@ -119,7 +120,7 @@ Variable frame said atom name = Located said.vars name (λ v. wants_comma frame 
 abbrev pub with_variable : Said → List ℕ → Said
 with_variable said name = record said { vars = said.vars ++ name ∷ [] }
 
--- the tests of a variable: in a head it was said before, and elsewhere there are at most 32
+-- the tests of a variable: in a head it was said before, and elsewhere there may be one more
 abbrev pub variable_tests : Frame → Said → OpenAtom → List ℕ → Outcome RulePosition → Type 0
 variable_tests (head_of_tgd name body body_vars) said atom variable =
     Test (Contains said.vars variable) U4
@@ -127,7 +128,7 @@ variable_tests (head_of_tgd name body body_vars) said atom variable =
 variable_tests frame said atom variable =
     When (Contains said.vars variable)
     (Variable frame said atom variable)
-    (Test (length said.vars < 32) U6
+    (Test (length said.vars < most_variables) U6
     (Variable frame (with_variable said variable) atom variable))
 
 -- the tests of an atom's relation
@@ -136,7 +137,7 @@ relation_tests rules frame said token =
     Named (kind_code frame) X9 token
     (Test (HasName rules.sources token.text ⊎ HasName rules.targets token.text) U1
     (Test (HasName (relations_of rules (side_of frame)) token.text) U3
-    (Test (length said.atoms < 8) U6
+    (Test (length said.atoms < most_atoms) U6
     (λ outcome. (number : ℕ) × (relation : Relation) × IsFirstNamed (relations_of rules (side_of frame)) token.text number relation
     × Goes (wants_parenthesis frame said (record { relation = number; width = length relation.columns; args = [] })) outcome))))
 
@@ -168,7 +169,7 @@ after_atom_tests (body_of_egd name) said token =
 after_atom_tests (disjunct_of name head branches) said token =
     When (token.kind ≡ Bar)
     (Test (HasHead head said) U4
-    (Test (length branches < 7) U6
+    (Test (length branches < most_disjuncts - 1) U6
     (Disjuncts head branches said (λ all. wants_atom (disjunct_of name head all) nothing_said))))
     (Test (EndsLine token) X8
     (Test (HasHead head said) U4
@@ -179,7 +180,7 @@ abbrev pub head_variable_tests : List ℕ → List (List ℕ) → Lexeme → Out
 head_variable_tests name head token =
     Named X8 X9 token
     (Test (¬ Contains head token.text) U5
-    (Test (length head < 16) U6
+    (Test (length head < most_head_variables) U6
     (Goes (wants_head_comma name (head ++ token.text ∷ [])))))
 
 -- the tests of the next token, in their order; the constants are in this pool
@@ -191,18 +192,18 @@ rule_tests rules pool begins token =
     (Stops X5)))
 rule_tests rules pool wants_tgd_name token =
     Named X6 X9 token
-    (Test (IsNewRuleName rules.tgds rules.egds token.text) U5
-    (Test (length rules.tgds < 256) U6
+    (Test (IsNewRuleName rules token.text) U5
+    (Test (length rules.tgds < most_tgds) U6
     (Goes (wants_colon (body_of_tgd token.text)))))
 rule_tests rules pool wants_egd_name token =
     Named X7 X9 token
-    (Test (IsNewRuleName rules.tgds rules.egds token.text) U5
-    (Test (length rules.egds < 256) U6
+    (Test (IsNewRuleName rules token.text) U5
+    (Test (length rules.egds < most_egds) U6
     (Goes (wants_colon (body_of_egd token.text)))))
 rule_tests rules pool wants_query_name token =
     Named X8 X9 token
-    (Test (All (λ q. q.name ≢ token.text) rules.queries) U5
-    (Test (length rules.queries < 64) U6
+    (Test (IsNewQueryName rules token.text) U5
+    (Test (length rules.queries < most_queries) U6
     (Goes (wants_head_parenthesis token.text))))
 rule_tests rules pool (wants_head_parenthesis name) token =
     Test (token.kind ≡ LeftParen) X8
@@ -224,7 +225,7 @@ rule_tests rules pool (wants_parenthesis frame said atom) token =
     (Goes (wants_argument frame said atom))
 rule_tests rules pool (wants_argument frame said atom) token =
     When (token.kind ≡ Quoted)
-    (Test (length token.text ≤ 4096) U6
+    (Test (length token.text ≤ longest_constant) U6
     (Located pool token.text (λ c. wants_comma frame said (with_argument atom (Const (record { 0 = c }))))))
     (Named (kind_code frame) X9 token
     (variable_tests frame said atom token.text))
@@ -245,7 +246,7 @@ rule_tests rules pool (after_arrow name said) token =
 rule_tests rules pool (wants_exists_variable name body body_vars vars) token =
     Named X6 X9 token
     (Test (¬ Contains vars token.text) U5
-    (Test (length vars < 32) U6
+    (Test (length vars < most_variables) U6
     (Goes (wants_exists_comma name body body_vars (vars ++ token.text ∷ [])))))
 rule_tests rules pool (wants_exists_comma name body body_vars vars) token =
     When (token.kind ≡ Comma) (Goes (wants_exists_variable name body body_vars vars))

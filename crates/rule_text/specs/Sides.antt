@@ -1,5 +1,6 @@
 -- The sides of an egd: variables of its body. No public clause cites this module.
 use Rattle.std.specs.Prelude.{◌≡◌, ◌≢◌, ◌⊎◌, ℕ, ◌≤◌, List, codes, length, Contains}
+use Rattle.rule_core.specs.Limits.{longest_name}
 use Rattle.decl_text.specs.declared.token.Kind.TheVariants.{Name}
 use Rattle.decl_text.specs.declared.token.Token.{Token}
 use Rattle.decl_text.specs.declared.fault.Code.{Code}
@@ -15,10 +16,10 @@ pub record IsSide (bytes : List ℕ) (from : ℕ) (vars : List (List ℕ)) (vari
   pub ends : token.end ≡ to
   pub stands : StandsNext bytes from token (record { kind = Name; text = text })
   pub other : text ≢ codes "exists"
-  pub short : length text ≤ 64
+  pub short : length text ≤ longest_name
   pub first : IsFirstAt vars text variable
 
 -- the token is no name, or the name of no variable
 abbrev pub IsNoSide : List (List ℕ) → Lexeme → Code → Type 0
 IsNoSide vars lexeme code = IsNoName X7 X9 lexeme code
-    ⊎ ((lexeme.kind ≡ Name) × (lexeme.text ≢ codes "exists") × (length lexeme.text ≤ 64) × ¬ (Contains vars lexeme.text) × (code ≡ U4))
+    ⊎ ((lexeme.kind ≡ Name) × (lexeme.text ≢ codes "exists") × (length lexeme.text ≤ longest_name) × ¬ (Contains vars lexeme.text) × (code ≡ U4))

@@ -12,14 +12,12 @@ ghost use Rattle.rule_text.specs.Frames.{said_of, LeadsIn, FailsIn, IsConstant, 
 ghost use Rattle.rule_text.specs.RuleLine.{OpenAtom, with_argument, with_atom, wants_argument, wants_comma, after_atom};
 
 use crate::part::Part;
-use crate::variables::{MOST_VARIABLES, Variables};
+use crate::variables::Variables;
 use decl_text::{Code, Kind, ReadError, Token, fault_at, quoted, read_name, read_token};
 use rule_core::Arg;
+use rule_core::limits::{LONGEST_CONSTANT, MOST_VARIABLES};
 use std::alloc::Global;
 use term_core::{ConstId, Items, Pool};
-
-/// The longest constant, in bytes.
-const LONGEST_CONSTANT: usize = 4096;
 
 /// The arguments of an atom, with the variables so far, and the place after the atom.
 #[derive(Drop)]

@@ -1,5 +1,6 @@
 //! Lists of atoms.
 
+ghost use Rattle.rule_core.specs.Limits.{most_atoms};
 ghost use Rattle.std.specs.Prelude.{◌≡◌, ◌≢◌, ℕ, ◌+◌, ◌<◌, ◌≤◌, List, [], ◌∷◌, ◌++◌, length, IfOk};
 ghost use Rattle.decl_text.specs.TokenList.{KnowsTexts};
 ghost use Rattle.decl_text.specs.Tests.{IfFault};
@@ -15,12 +16,10 @@ use crate::part::Part;
 use crate::relations::find_relation;
 use crate::variables::Variables;
 use decl_text::{Code, Kind, ReadError, fault_at, read_name, read_sign, read_token};
+use rule_core::limits::MOST_ATOMS;
 use rule_core::{Atom, Rules};
 use std::alloc::Global;
 use term_core::{Items, Pool};
-
-/// The most atoms of a body, a head or a disjunct.
-const MOST_ATOMS: usize = 8;
 
 /// Atoms, with the variables so far, and the place after them.
 #[derive(Drop)]
@@ -120,7 +119,7 @@ fn read_atom(
         said.end (λ f. wants_atom f (said_of said.vars said.list))
         read.end (λ f. after_atom f (said_of read.vars read.list))) }
     ensures more { IfOk result (λ read. length read.list ≡ length said.list + 1) }
-    ensures few { IfOk result (λ read. length read.list ≤ MOST_ATOMS) }
+    ensures few { IfOk result (λ read. length read.list ≤ most_atoms) }
     ensures within { IfOk result (λ read. read.end ≤ length bytes.now) }
     ensures fault { IfFault result (FailsIn rules.now pool.now bytes.now part
         said.end (λ f. wants_atom f (said_of said.vars said.list))) }
@@ -158,7 +157,7 @@ fn read_relation(
         (λ read. LeadsIn rules.now pool bytes.now part from (λ f. wants_atom f said)
         read.end (λ f. wants_parenthesis f said
         (record { relation = read.relation; width = read.width; args = [] }))) }
-    ensures few { IfOk result (λ read. before < MOST_ATOMS) }
+    ensures few { IfOk result (λ read. before < most_atoms) }
     ensures within { IfOk result (λ read. read.end ≤ length bytes.now) }
     ensures fault { (pool : List (List ℕ)) (said : Said) → length said.atoms ≡ before → IfFault result
         (FailsIn rules.now pool bytes.now part from (λ f. wants_atom f said)) }

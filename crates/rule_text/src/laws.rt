@@ -1,12 +1,14 @@
 //! Laws of the definitions: a line states one rule, which fits, or has one first fault; a rule's constants
 //! are the texts in its quotes; and rules are read back.
 
-ghost use Rattle.std.specs.Prelude.{◌≡◌, ◌↔◌, ◌+◌, ℕ, ◌≤◌, List, ◌++◌, length, Some, slice_get, All, IsUtf8};
+ghost use Rattle.std.specs.Prelude.{◌≡◌, ◌↔◌, ◌⊎◌, ◌+◌, ℕ, ◌≤◌, List, ◌++◌, length, Some, slice_get, All, IsUtf8};
 ghost use Rattle.decl_text.specs.declared.fault.MappingFault.{MappingFault as FaultValue};
 ghost use Rattle.decl_text.specs.Tests.{IsDecided, Pass};
+ghost use Rattle.decl_text.specs.TokenList.{KnowsTexts};
 ghost use Rattle.decl_text.specs.declared.token.Token.{Token as TokenValue};
 ghost use Rattle.term_core.specs.Pool.{IsPool};
 ghost use Rattle.term_core.specs.declared.const_id.ConstId.{ConstId};
+ghost use Rattle.rule_core.specs.Limits.{longest_constant};
 ghost use Rattle.rule_core.specs.Mapping.{RuleSet};
 ghost use Rattle.rule_core.specs.Validity.{IsValid};
 ghost use Rattle.rule_text.specs.declared.rule.Rule.{Rule as RuleValue};
@@ -15,8 +17,8 @@ ghost use Rattle.rule_text.specs.Canonical.{rule_text};
 ghost use Rattle.rule_text.specs.Constants.{HasConstant, NeedsText, IsQuotedAmong, HasTexts};
 ghost use Rattle.rule_text.specs.RuleLine.{begins, stated, rule_tests, IsRule, FailsRule};
 
-/// From a place on, at most one rule is stated, and its line ends at one place; a line has one first
-/// fault; and not both.
+/// From a place on, one rule is stated, and its line ends at one place; or the line has one first fault;
+/// and not both. The texts in its quotes are to be in the pool.
 pub fn a_rule_is_one()
     ensures decided { (rules : RuleSet) (pool : List (List ℕ)) → IsDecided (rule_tests rules pool) }
     ensures one { (bytes : List ℕ) (rules : RuleSet) (pool : List (List ℕ)) (from : ℕ) (a b : RuleValue)
@@ -27,6 +29,10 @@ pub fn a_rule_is_one()
     ensures apart { (bytes : List ℕ) (rules : RuleSet) (pool : List (List ℕ)) (from : ℕ) (rule : RuleValue)
         → (to : ℕ) (fault : FaultValue) → IsRule bytes rules pool from rule to
         → ¬ (FailsRule bytes rules pool from fault) }
+    ensures either { (bytes : List ℕ) (rules : RuleSet) (pool : List (List ℕ)) (from : ℕ)
+        → KnowsTexts bytes from pool
+        → ((rule : RuleValue) × (to : ℕ) × IsRule bytes rules pool from rule to)
+        ⊎ ((fault : FaultValue) × FailsRule bytes rules pool from fault) }
 {}
 
 /// A rule that is read from a line fits the mapping before it.
@@ -37,7 +43,7 @@ pub fn what_is_read_fits()
 {}
 
 /// In a line that states a rule, the texts in quotes are those of the rule's constants in the pool: each
-/// has at most 4,096 bytes, and each constant has one.
+/// is no longer than the longest, and each constant has one.
 pub fn constants_are_the_quoted_texts()
     ensures same { (rules : RuleSet) (pool : List (List ℕ)) (bytes : List ℕ) (from : ℕ) (rule : RuleValue)
         → (tokens : List TokenValue) (to : ℕ)
@@ -46,7 +52,7 @@ pub fn constants_are_the_quoted_texts()
     ensures short { (rules : RuleSet) (pool : List (List ℕ)) (bytes : List ℕ) (from : ℕ) (rule : RuleValue)
         → (tokens : List TokenValue) (to : ℕ)
         → Pass (rule_tests rules pool) bytes from begins tokens to (stated rule)
-        → (text : List ℕ) → IsQuotedAmong bytes tokens text → length text ≤ 4096 }
+        → (text : List ℕ) → IsQuotedAmong bytes tokens text → length text ≤ longest_constant }
     ensures known { (rules : RuleSet) (pool : List (List ℕ)) (bytes : List ℕ) (from : ℕ) (rule : RuleValue)
         → (tokens : List TokenValue) (to : ℕ)
         → Pass (rule_tests rules pool) bytes from begins tokens to (stated rule)
@@ -58,7 +64,7 @@ pub fn constants_are_the_quoted_texts()
 pub fn rules_are_read_back()
     ensures { (before rest : List ℕ) (rules : RuleSet) (pool : List (List ℕ)) (rule : RuleValue)
         → IsValid (with_rule rules rule) → IsPool pool → All IsUtf8 pool
-        → HasTexts pool (λ text. length text ≤ 4096) rule
+        → HasTexts pool (λ text. length text ≤ longest_constant) rule
         → IsRule (before ++ (rule_text rules pool rule ++ rest)) rules pool (length before) rule
         (length before + length (rule_text rules pool rule)) }
 {}

@@ -3,6 +3,7 @@
 ghost use Rattle.std.specs.Prelude.{◌≡◌, ℕ, ◌<◌, ◌≤◌, List, [], ◌∷◌, ◌++◌, length, IfOk, IfSome, IfNone};
 ghost use Rattle.decl_text.specs.TokenList.{KnowsTexts};
 ghost use Rattle.decl_text.specs.Tests.{Leads, Fails, IfFault};
+ghost use Rattle.rule_core.specs.Limits.{most_head_variables};
 ghost use Rattle.rule_core.specs.Mapping.{RuleSet};
 ghost use Rattle.rule_core.specs.declared.rules.Branch.{Branch as BranchValue};
 ghost use Rattle.rule_text.specs.Behind.{EndsDisjunct, StandsBehind, GoesOn, behind_disjuncts, IsColumnList};
@@ -16,15 +17,13 @@ use crate::names::read_query_name;
 use crate::part::Part;
 use crate::variables::Variables;
 use decl_text::{Code, Kind, Name, ReadError, Token, fault_at, read_name, read_sign, read_token};
+use rule_core::limits::{MOST_DISJUNCTS, MOST_HEAD_VARIABLES};
 use rule_core::{Branch, Query, Rules};
 use std::alloc::Global;
 use term_core::{Items, Memory, Pool, Text};
 
-/// The most head variables of a query.
-const MOST_HEAD_VARIABLES: usize = 16;
-
 /// The most bars of a query.
-const MOST_BARS: usize = 7;
+const MOST_BARS: usize = MOST_DISJUNCTS - 1;
 
 // The head variables of a query, and the place after the closing parenthesis.
 #[derive(Drop)]
@@ -131,7 +130,7 @@ fn read_head_variable(
     ensures variable { (rules : RuleSet) (pool : List (List ℕ)) (name : List ℕ) → IfOk result
         (λ read. Leads (rule_tests rules pool) bytes.now from (wants_head_variable name head.now)
         read.token.end (wants_head_comma name (head.now ++ read.text ∷ []))) }
-    ensures few { IfOk result (λ read. length head.now < MOST_HEAD_VARIABLES) }
+    ensures few { IfOk result (λ read. length head.now < most_head_variables) }
     ensures within { IfOk result (λ read. read.token.end ≤ length bytes.now) }
     ensures fault { (rules : RuleSet) (pool : List (List ℕ)) (name : List ℕ) → IfFault result
         (Fails (rule_tests rules pool) bytes.now from (wants_head_variable name head.now)) }

@@ -6,6 +6,7 @@ ghost use Rattle.decl_text.specs.Tests.{Leads, Fails, IfFault};
 ghost use Rattle.decl_text.specs.Tokens.{IsNextToken};
 ghost use Rattle.decl_text.specs.declared.token.Kind.TheVariants as kinds;
 ghost use Rattle.decl_text.specs.declared.token.Token.{Token as TokenValue};
+ghost use Rattle.rule_core.specs.Limits.{most_variables};
 ghost use Rattle.rule_core.specs.Mapping.{RuleSet};
 ghost use Rattle.rule_core.specs.declared.rules.Atom.{Atom as AtomValue};
 ghost use Rattle.rule_text.specs.Frames.{said_of};
@@ -16,8 +17,9 @@ use crate::atoms::{Atoms, read_atoms, read_body};
 use crate::follows::{After, read_after, read_line_end};
 use crate::names::read_tgd_name;
 use crate::part::Part;
-use crate::variables::{MOST_VARIABLES, Variables};
+use crate::variables::Variables;
 use decl_text::{Code, Kind, Name, ReadError, fault_at, is_word, read_name, read_token};
+use rule_core::limits::MOST_VARIABLES;
 use rule_core::{Rules, Tgd};
 use std::alloc::Global;
 use term_core::Pool;
@@ -138,7 +140,7 @@ fn read_exists_variable(
         → IfOk result (λ read. Leads (rule_tests rules pool)
         bytes.now from (wants_exists_variable name body count vars.now)
         read.token.end (wants_exists_comma name body count (vars.now ++ read.text ∷ []))) }
-    ensures few { IfOk result (λ read. length vars.now < MOST_VARIABLES) }
+    ensures few { IfOk result (λ read. length vars.now < most_variables) }
     ensures within { IfOk result (λ read. read.token.end ≤ length bytes.now) }
     ensures fault { (rules : RuleSet) (pool : List (List ℕ)) (name : List ℕ) (body : List AtomValue) (count : ℕ)
         → IfFault result (Fails (rule_tests rules pool)

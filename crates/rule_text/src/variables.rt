@@ -1,16 +1,14 @@
 //! The variables of a tgd, an egd or a disjunct.
 
 ghost use Rattle.std.specs.Prelude.{◌≡◌, ◌↔◌, ℕ, ◌<◌, [], ◌∷◌, ◌++◌, length, Contains, IsTrue, IfSome, IfNone, IfOk, OnOk};
+ghost use Rattle.rule_core.specs.Limits.{most_variables};
 ghost use Rattle.rule_text.specs.RuleLine.{IsFirstAt};
 
 use std::alloc::Global;
 use std::marker::Model;
 use term_core::{Items, Memory, Text};
 
-/// The most variables of a tgd, an egd or a disjunct.
-pub(crate) const MOST_VARIABLES: usize = 32;
-
-/// At most 32 names, in order of first occurrence.
+/// Names, at most as many as there may be variables, in order of first occurrence.
 #[derive(Drop)]
 pub(crate) struct Variables {
     names: Items<Text>,
@@ -18,12 +16,13 @@ pub(crate) struct Variables {
 
 impl Model for Variables {
     ghost use Rattle.std.specs.Prelude.{List, ℕ, ◌≤◌, length};
+    ghost use Rattle.rule_core.specs.Limits.{most_variables};
 
     ghost Value = { List (List ℕ) };
 
     ghost view = { λ v. v.names };
 
-    ghost invariant = { λ v. length v.names ≤ 32 };
+    ghost invariant = { λ v. length v.names ≤ most_variables };
 }
 
 impl Variables {
@@ -61,7 +60,7 @@ impl Variables {
 
     /// Adds a variable as the last, and gives its place.
     pub(crate) fn push(&mut self, name: Text) -> Result<u32, Memory>
-        requires { length self.old < 32 }
+        requires { length self.old < most_variables }
         ensures last { OnOk result (self.new ≡ self.old ++ name ∷ []) }
         ensures place { IfOk result (λ place. place ≡ length self.old) }
     {

@@ -12,21 +12,21 @@ returns-in_err-name-clause-fault c place =
     (declaration_wants c.args.rules.now (wants_name place) tt) _ fault
     (name_fails c.args.rules.now c.args.bytes.now place)) c.in_err-name.ensures.fault)
 
-pub returns-then-not-is_new-clause-fault : goal.returns-then-not-is_new-clause-fault
-returns-then-not-is_new-clause-fault c place =
+pub returns-then-not-is_new_relation_name-clause-fault : goal.returns-then-not-is_new_relation_name-clause-fault
+returns-then-not-is_new_relation_name-clause-fault c place =
     rw c.fault_at.ensures (name_is_old c.args.rules.now c.args.bytes.now c.args.from place c.in_ok-name.name.token c.in_ok-name.name.text
     c.in_ok-name.ensures.stands c.in_ok-name.ensures.other c.in_ok-name.ensures.short
-    (λ new. let found = c.is_new.ensures.1 new in cc))
+    (λ new. let found = c.is_new_relation_name.ensures.1 new in cc))
 
 pub returns-then-not-has_place-clause-fault : goal.returns-then-not-has_place-clause-fault
 returns-then-not-has_place-clause-fault c place =
     rw c.fault_at-then-not-has_place.ensures
     (no_place c.args.rules.now c.args.bytes.now c.args.from place c.in_ok-name.name.token c.in_ok-name.name.text
-    c.in_ok-name.ensures.stands c.in_ok-name.ensures.other c.in_ok-name.ensures.short (c.is_new.ensures.0 c.if-not-is_new.false)
+    c.in_ok-name.ensures.stands c.in_ok-name.ensures.other c.in_ok-name.ensures.short (c.is_new_relation_name.ensures.0 c.if-not-is_new_relation_name.false)
     (λ room. let found = c.has_place.ensures.1 room in cc))
 
 pub returns-clause-name : goal.returns-clause-name
 returns-clause-name c place =
     name_goes c.args.rules.now c.args.bytes.now c.args.from place c.in_ok-name.name.token c.in_ok-name.name.text
-    c.in_ok-name.ensures.stands c.in_ok-name.ensures.other c.in_ok-name.ensures.short (c.is_new.ensures.0 c.if-not-is_new.false)
+    c.in_ok-name.ensures.stands c.in_ok-name.ensures.other c.in_ok-name.ensures.short (c.is_new_relation_name.ensures.0 c.if-not-is_new_relation_name.false)
     (c.has_place.ensures.0 c.if-not-has_place.false)

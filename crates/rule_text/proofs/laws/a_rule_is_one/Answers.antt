@@ -1,3 +1,4 @@
+use Rattle.rule_text.proofs.OutcomeLemmas.{rule_or_first_fault}
 use Rattle.rule_text.proofs.OneOutcome.{rule_decided, rule_once, rule_fault_once, rule_or_fault}
 use Rattle.rule_text.proofs.laws.a_rule_is_one.Goals as goal
 
@@ -12,3 +13,6 @@ returns-clause-fault c = rule_fault_once
 
 pub returns-clause-apart : goal.returns-clause-apart
 returns-clause-apart c = rule_or_fault
+
+pub returns-clause-either : goal.returns-clause-either
+returns-clause-either c = rule_or_first_fault

@@ -1,6 +1,5 @@
-use Rattle.std.proofs.Common.{◌≡◌, ◌<◌, ◌≤◌, length, All, Err, rules, arith}
-use Rattle.std.specs.Prelude.{◌≢◌}
-use Rattle.rule_core.specs.declared.rules.Query.{Query}
+use Rattle.std.proofs.Common.{◌≡◌, ◌<◌, ◌≤◌, length, Err, rules, arith}
+use Rattle.rule_core.specs.Adding.{IsNewQueryName}
 use Rattle.decl_text.specs.declared.fault.Code.TheVariants.{X8}
 use Rattle.rule_text.specs.RuleLine.{wants_query_name, wants_head_parenthesis, rule_tests}
 use Rattle.rule_text.proofs.LineLemmas.{fault_later}
@@ -12,7 +11,7 @@ pub returns-in_err-name-clause-fault : goal.returns-in_err-name-clause-fault
 returns-in_err-name-clause-fault c pool =
     let answer : c.from_residual.result ≡ Err c.in_err-name.field-0.0 = search rules in
     rw answer (fault_later c.in_err-name.field-0.0 _ _ (new_name_fails (rule_tests c.args.rules.now pool) c.args.bytes.now c.args.from
-    wants_query_name X8 (λ t. All (λ q. q.name ≢ t) c.args.rules.now.queries)
+    wants_query_name X8 (λ t. IsNewQueryName c.args.rules.now t)
     (length c.args.rules.now.queries < 64) wants_head_parenthesis (λ lexeme outcome h. h))
     c.in_err-name.ensures.fault)
 
@@ -23,24 +22,24 @@ returns-then-not-is_new_query_name-clause-fault c pool =
       other = c.in_ok-name.ensures.other;
       short = c.in_ok-name.ensures.short;
     } in
-    let old : ¬ (All (λ (q : Query). q.name ≢ c.in_ok-name.name.text) c.args.rules.now.queries) = search rules in
+    let old : ¬ (IsNewQueryName c.args.rules.now c.in_ok-name.name.text) = search rules in
     rw c.fault_at.ensures (new_name_old (rule_tests c.args.rules.now pool) c.args.bytes.now c.args.from
-    wants_query_name X8 (λ t. All (λ q. q.name ≢ t) c.args.rules.now.queries)
+    wants_query_name X8 (λ t. IsNewQueryName c.args.rules.now t)
     (length c.args.rules.now.queries < 64) wants_head_parenthesis (λ lexeme outcome h. h)
     c.in_ok-name.name.token c.in_ok-name.name.text name old)
 
-pub returns-then-queries-ge-MOST_QUERIES-clause-fault : goal.returns-then-queries-ge-MOST_QUERIES-clause-fault
-returns-then-queries-ge-MOST_QUERIES-clause-fault c pool =
+pub returns-then-len-ge-MOST_QUERIES-clause-fault : goal.returns-then-len-ge-MOST_QUERIES-clause-fault
+returns-then-len-ge-MOST_QUERIES-clause-fault c pool =
     let name : StandsName c.args.bytes.now c.args.from c.in_ok-name.name.token c.in_ok-name.name.text = record {
       stands = c.in_ok-name.ensures.stands;
       other = c.in_ok-name.ensures.other;
       short = c.in_ok-name.ensures.short;
     } in
-    let new : All (λ (q : Query). q.name ≢ c.in_ok-name.name.text) c.args.rules.now.queries = search rules in
+    let new : IsNewQueryName c.args.rules.now c.in_ok-name.name.text = search rules in
     let most : 64 ≤ length c.args.rules.now.queries = search rules in
     let full : ¬ ((length c.args.rules.now.queries < 64)) = λ few. omega arith in
-    rw c.fault_at-then-queries-ge-MOST_QUERIES.ensures (new_name_full (rule_tests c.args.rules.now pool) c.args.bytes.now c.args.from
-    wants_query_name X8 (λ t. All (λ q. q.name ≢ t) c.args.rules.now.queries)
+    rw c.fault_at-then-len-ge-MOST_QUERIES.ensures (new_name_full (rule_tests c.args.rules.now pool) c.args.bytes.now c.args.from
+    wants_query_name X8 (λ t. IsNewQueryName c.args.rules.now t)
     (length c.args.rules.now.queries < 64) wants_head_parenthesis (λ lexeme outcome h. h)
     c.in_ok-name.name.token c.in_ok-name.name.text name new full)
 
@@ -51,9 +50,9 @@ returns-clause-name c pool =
       other = c.in_ok-name.ensures.other;
       short = c.in_ok-name.ensures.short;
     } in
-    let new : All (λ (q : Query). q.name ≢ c.in_ok-name.name.text) c.args.rules.now.queries = search rules in
+    let new : IsNewQueryName c.args.rules.now c.in_ok-name.name.text = search rules in
     let room : (length c.args.rules.now.queries < 64) = search rules in
     new_name_goes (rule_tests c.args.rules.now pool) c.args.bytes.now c.args.from
-    wants_query_name X8 (λ t. All (λ q. q.name ≢ t) c.args.rules.now.queries)
+    wants_query_name X8 (λ t. IsNewQueryName c.args.rules.now t)
     (length c.args.rules.now.queries < 64) wants_head_parenthesis (λ lexeme outcome h. h)
     c.in_ok-name.name.token c.in_ok-name.name.text name new room

@@ -11,7 +11,7 @@ pub returns-in_err-name-clause-fault : goal.returns-in_err-name-clause-fault
 returns-in_err-name-clause-fault c pool =
     let answer : c.from_residual.result ≡ Err c.in_err-name.field-0.0 = search rules in
     rw answer (fault_later c.in_err-name.field-0.0 _ _ (new_name_fails (rule_tests c.args.rules.now pool) c.args.bytes.now c.args.from
-    wants_tgd_name X6 (λ t. IsNewRuleName c.args.rules.now.tgds c.args.rules.now.egds t)
+    wants_tgd_name X6 (λ t. IsNewRuleName c.args.rules.now t)
     (length c.args.rules.now.tgds < 256) (λ t. wants_colon (body_of_tgd t)) (λ lexeme outcome h. h))
     c.in_err-name.ensures.fault)
 
@@ -22,24 +22,24 @@ returns-then-not-is_new_rule_name-clause-fault c pool =
       other = c.in_ok-name.ensures.other;
       short = c.in_ok-name.ensures.short;
     } in
-    let old : ¬ (IsNewRuleName c.args.rules.now.tgds c.args.rules.now.egds c.in_ok-name.name.text) = search rules in
+    let old : ¬ (IsNewRuleName c.args.rules.now c.in_ok-name.name.text) = search rules in
     rw c.fault_at.ensures (new_name_old (rule_tests c.args.rules.now pool) c.args.bytes.now c.args.from
-    wants_tgd_name X6 (λ t. IsNewRuleName c.args.rules.now.tgds c.args.rules.now.egds t)
+    wants_tgd_name X6 (λ t. IsNewRuleName c.args.rules.now t)
     (length c.args.rules.now.tgds < 256) (λ t. wants_colon (body_of_tgd t)) (λ lexeme outcome h. h)
     c.in_ok-name.name.token c.in_ok-name.name.text name old)
 
-pub returns-then-len-ge-MOST_RULES-clause-fault : goal.returns-then-len-ge-MOST_RULES-clause-fault
-returns-then-len-ge-MOST_RULES-clause-fault c pool =
+pub returns-then-len-ge-MOST_TGDS-clause-fault : goal.returns-then-len-ge-MOST_TGDS-clause-fault
+returns-then-len-ge-MOST_TGDS-clause-fault c pool =
     let name : StandsName c.args.bytes.now c.args.from c.in_ok-name.name.token c.in_ok-name.name.text = record {
       stands = c.in_ok-name.ensures.stands;
       other = c.in_ok-name.ensures.other;
       short = c.in_ok-name.ensures.short;
     } in
-    let new : IsNewRuleName c.args.rules.now.tgds c.args.rules.now.egds c.in_ok-name.name.text = search rules in
+    let new : IsNewRuleName c.args.rules.now c.in_ok-name.name.text = search rules in
     let most : 256 ≤ length c.args.rules.now.tgds = search rules in
     let full : ¬ ((length c.args.rules.now.tgds < 256)) = λ few. omega arith in
-    rw c.fault_at-then-len-ge-MOST_RULES.ensures (new_name_full (rule_tests c.args.rules.now pool) c.args.bytes.now c.args.from
-    wants_tgd_name X6 (λ t. IsNewRuleName c.args.rules.now.tgds c.args.rules.now.egds t)
+    rw c.fault_at-then-len-ge-MOST_TGDS.ensures (new_name_full (rule_tests c.args.rules.now pool) c.args.bytes.now c.args.from
+    wants_tgd_name X6 (λ t. IsNewRuleName c.args.rules.now t)
     (length c.args.rules.now.tgds < 256) (λ t. wants_colon (body_of_tgd t)) (λ lexeme outcome h. h)
     c.in_ok-name.name.token c.in_ok-name.name.text name new full)
 
@@ -50,9 +50,9 @@ returns-clause-name c pool =
       other = c.in_ok-name.ensures.other;
       short = c.in_ok-name.ensures.short;
     } in
-    let new : IsNewRuleName c.args.rules.now.tgds c.args.rules.now.egds c.in_ok-name.name.text = search rules in
+    let new : IsNewRuleName c.args.rules.now c.in_ok-name.name.text = search rules in
     let room : (length c.args.rules.now.tgds < 256) = search rules in
     new_name_goes (rule_tests c.args.rules.now pool) c.args.bytes.now c.args.from
-    wants_tgd_name X6 (λ t. IsNewRuleName c.args.rules.now.tgds c.args.rules.now.egds t)
+    wants_tgd_name X6 (λ t. IsNewRuleName c.args.rules.now t)
     (length c.args.rules.now.tgds < 256) (λ t. wants_colon (body_of_tgd t)) (λ lexeme outcome h. h)
     c.in_ok-name.name.token c.in_ok-name.name.text name new room
