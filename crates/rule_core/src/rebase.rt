@@ -3,9 +3,6 @@
 ghost use Rattle.std.specs.Prelude.{◌≡◌, ℕ, List, Some, Contains, map, slice_get, IfOk};
 ghost use Rattle.rule_core.specs.Rebase.{KeepsTexts, number_in, renumbered_arg, renumbered_atom, renumbered_tgd, renumbered_egd, renumbered_branch, renumbered_query};
 
-#[cfg(test)]
-mod tests;
-
 use crate::{Arg, Atom, Branch, Egd, Query, Relation, Tgd};
 use std::alloc::Global;
 use term_core::{ConstId, Items, Memory, Pool, Text};
