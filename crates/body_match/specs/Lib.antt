@@ -1,4 +1,5 @@
 pub mod Matches
 pub mod Snapshots
+pub mod Visits
 pub mod Places
 pub mod Search

@@ -9,6 +9,8 @@ pub mod laws;
 mod listing;
 mod places;
 mod search;
+mod visit;
 
 pub use found::Match;
 pub use listing::{matches, matches_with};
+pub use visit::{Visitor, visit_matches};
