@@ -5,3 +5,4 @@ pub mod EndsLemmas
 pub mod AddsLemmas
 pub mod LeafLemmas
 pub mod SnapshotLemmas
+pub mod VisitLemmas
