@@ -12,8 +12,8 @@ use Rattle.std.proofs.lemmas.List.Elements.{Contains-append_left, Contains-appen
 use Rattle.rule_core.proofs.ListLemmas.{AllPairs-nil, AllPairs-cons, AllPairs-head, AllPairs-tail, Contains-head, Contains-cons, Contains-cons_cases, Contains-nil}
 use Rattle.body_match.specs.declared.found.Match.{Match}
 use Rattle.body_match.specs.Matches.{StandsBefore, IsImageAt, seen_value}
-use Rattle.body_match.specs.Search.{Task, BeginsWith, IsListedFrom, AddsNext, Gives}
-use Rattle.body_match.proofs.ListLemmas.{at_within, within_from_at, zip_length}
+use Rattle.body_match.specs.Search.{Task, IsListedFrom, AddsNext, Gives}
+use Rattle.body_match.proofs.ListLemmas.{within_from_at, zip_length}
 use Rattle.body_match.proofs.SearchLemmas.{same_some}
 use Rattle.body_match.proofs.VisitLemmas.{takes_both}
 

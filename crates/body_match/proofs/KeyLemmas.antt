@@ -1,6 +1,6 @@
 -- Keys, and that a row which may be chosen next is found under its key.
-use Rattle.std.proofs.Common.{◌≡◌, ℕ, ℤ, ◌+◌, ◌-◌, ◌<◌, ◌≤◌, ◌<ℤ◌, Option, Some, None, List, [], ◌∷◌, ◌++◌, length, fold, refl, sym, ap, ◌∙◌, subst, arith, All, Contains, get_or}
-use Rattle.std.specs.Prelude.{slice_get, IsSome, IsSomeAnd}
+use Rattle.std.proofs.Common.{◌≡◌, ℕ, ℤ, ◌<◌, ◌<ℤ◌, Option, Some, None, List, [], ◌∷◌, ◌++◌, length, fold, refl, sym, ap, ◌∙◌, subst, All, Contains, get_or}
+use Rattle.std.specs.Prelude.{slice_get, IsSome}
 use Rattle.std.specs.Option.{option_and_then}
 use Rattle.std.proofs.lemmas.Option.{get_or_from_slice_get}
 use Rattle.std.proofs.lemmas.Bool.{false≢true}
@@ -15,14 +15,12 @@ use Rattle.rule_core.proofs.ListLemmas.{Contains-head, Contains-cons}
 use Rattle.fact_table.specs.Rows.{SeenRow, row_at, cell_at}
 use Rattle.body_match.specs.declared.found.Match.{Match}
 use Rattle.body_match.specs.declared.levels.Level.{Level}
-use Rattle.body_match.specs.declared.lookup.Entry.{Entry}
 use Rattle.body_match.specs.declared.lookup.Probe.{Probe}
-use Rattle.body_match.specs.declared.places.Place.{Place}
-use Rattle.body_match.specs.Matches.{seen_value, IsImage, IsImageAt, HoldsAt}
-use Rattle.body_match.specs.Lookup.{IsSought, HasSought}
-use Rattle.body_match.specs.Keys.{mixed_some, key_of, IsBound, AreBound, start_number, stop_number, IsEntryOf, HasForm, IsLevel}
+use Rattle.body_match.specs.Matches.{seen_value, IsImage}
+use Rattle.body_match.specs.Lookup.{HasSought}
+use Rattle.body_match.specs.Keys.{mixed_some, key_of, IsBound, AreBound, start_number, stop_number, IsLevel}
 use Rattle.body_match.specs.Search.{Task, IsTask, placed_value, value_in, IsPartial, IsListedFrom, HasNext}
-use Rattle.body_match.proofs.ListLemmas.{at_within, within_from_at, at_front, at_from_contains}
+use Rattle.body_match.proofs.ListLemmas.{at_within, within_from_at, at_front}
 use Rattle.body_match.proofs.EndsLemmas.{meeting_ends}
 use Rattle.body_match.proofs.SearchLemmas.{some_and, same_some, image_cell, placed_var, next_image, next_agrees, next_meets}
 

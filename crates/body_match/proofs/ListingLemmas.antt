@@ -1,7 +1,7 @@
 -- A list of matches as it grows.
 use Rattle.std.proofs.Common.{◌≡◌, ◌↔◌, ◌⊎◌, inl, inr, Bool, true, false, List, [], ◌∷◌, ◌++◌, Option, ℕ, refl, sym, ap, ◌∙◌, subst, AllPairs, Contains, append_assoc}
 use Rattle.std.proofs.lemmas.List.{append-nil}
-use Rattle.rule_core.proofs.ListLemmas.{AllPairs-nil, AllPairs-cons, AllPairs-head, AllPairs-tail, Contains-head, Contains-cons, Contains-cons_cases, Contains-nil}
+use Rattle.rule_core.proofs.ListLemmas.{AllPairs-cons, AllPairs-head, AllPairs-tail, Contains-head, Contains-cons, Contains-cons_cases, Contains-nil}
 use Rattle.body_match.specs.declared.found.Match.{Match}
 use Rattle.body_match.specs.declared.listing.Listing.{Listing}
 use Rattle.rule_core.specs.declared.rules.Atom.{Atom}

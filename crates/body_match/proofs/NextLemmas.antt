@@ -1,5 +1,5 @@
 -- The rows that may be chosen next, in order.
-use Rattle.std.proofs.Common.{◌≡◌, ◌⊎◌, inl, inr, ℕ, zero, suc, ◌+◌, ◌-◌, ◌<◌, ◌≤◌, List, [], ◌∷◌, ◌++◌, Some, length, refl, sym, ap, ◌∙◌, subst, arith, AllPairs, Contains, eqb, take, IsPermutation, get_or}
+use Rattle.std.proofs.Common.{◌≡◌, ℕ, zero, suc, ◌+◌, ◌-◌, ◌<◌, ◌≤◌, List, [], ◌∷◌, ◌++◌, length, refl, sym, ap, ◌∙◌, subst, arith, AllPairs, Contains, eqb, take, IsPermutation, get_or}
 use Rattle.std.specs.Prelude.{slice_get}
 use Rattle.std.specs.List.{dedup}
 use Rattle.std.specs.List.Sorted.{IsSorted}
@@ -9,8 +9,7 @@ use Rattle.std.proofs.lemmas.List.{length-append}
 use Rattle.std.proofs.lemmas.List.Kept.{Contains-dedup_nat, AllPairs-from_increasing}
 use Rattle.std.proofs.lemmas.List.Sorted.{Contains-permutation}
 use Rattle.std.proofs.lemmas.Map.Keys.{IsStrictlyIncreasing-dedup}
-use Rattle.body_match.specs.declared.found.Match.{Match}
-use Rattle.body_match.specs.Search.{Task, IsListedFrom, HasNext, AddsNext}
+use Rattle.body_match.specs.Search.{Task, HasNext, AddsNext}
 use Rattle.body_match.proofs.ListLemmas.{at_from_contains, within_from_at}
 
 take_front : (xs ys : List ℕ) → take (length xs) (xs ++ ys) ≡ xs

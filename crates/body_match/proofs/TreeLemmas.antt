@@ -1,10 +1,10 @@
 -- The tree above entries: what a node's reach says of the entries below.
-use Rattle.std.proofs.Common.{◌≡◌, ◌⊎◌, inl, inr, ℕ, zero, suc, ◌+◌, ◌-◌, ◌*◌, ◌/◌, ◌%◌, ◌<◌, ◌≤◌, List, Some, None, length, refl, sym, ap, ◌∙◌, subst, arith, slice_get, slice_set, min, Contains, ⊎_elim}
+use Rattle.std.proofs.Common.{◌≡◌, ◌⊎◌, inl, inr, ℕ, zero, suc, ◌+◌, ◌*◌, ◌/◌, ◌%◌, ◌<◌, ◌≤◌, List, Some, length, refl, sym, ap, ◌∙◌, subst, arith, slice_get, slice_set, min, Contains, ⊎_elim}
 use Rattle.std.proofs.lemmas.Bool.{cases_lt}
 use Rattle.body_match.specs.declared.lookup.Entry.{Entry}
 use Rattle.body_match.specs.declared.lookup.Probe.{Probe}
 use Rattle.body_match.specs.declared.lookup.Reach.{Reach}
-use Rattle.body_match.specs.Lookup.{Tree, IsTree, Encloses, Includes, AreInLeaves, AreJoined, StepsBelow, IsBelow, IsSought, IsSoughtBelow, AddsBelow, Keeps, HasSought}
+use Rattle.body_match.specs.Lookup.{Tree, IsTree, Encloses, Includes, AreInLeaves, AreJoined, StepsBelow, IsBelow, IsSought, AddsBelow, Keeps, HasSought}
 use Rattle.body_match.proofs.ListLemmas.{at_within, within_from_at, at_from_contains, at_set_here, at_set_other}
 use Rattle.body_match.proofs.SearchLemmas.{same_some}
 

@@ -1,9 +1,7 @@
 -- Keys of rows by what stands in some of their columns. No public clause cites this module.
 use Rattle.std.specs.Prelude.{◌≡◌, ℕ, ℤ, pos, negsuc, ◌+◌, ◌*◌, ◌%◌, ◌^◌, ◌<◌, ◌≤◌, ◌-◌, List, Option, Some, None, Contains, length, fold, slice_get}
 use Rattle.std.specs.Bool.{⊤}
-use Rattle.std.specs.Option.{option_and_then}
-use Rattle.time_line.specs.Span.{Ends, IsSpan}
-use Rattle.term_core.specs.declared.const_id.ConstId.{ConstId}
+use Rattle.time_line.specs.Span.{IsSpan}
 use Rattle.term_core.specs.declared.term.Seen.{Seen}
 use Rattle.term_core.specs.declared.term.Seen.TheVariants.{Const, Piece}
 use Rattle.rule_core.specs.declared.rules.Arg.{Arg}
@@ -11,7 +9,6 @@ use Rattle.rule_core.specs.declared.rules.Arg.TheVariants as args
 use Rattle.rule_core.specs.declared.rules.Atom.{Atom}
 use Rattle.fact_table.specs.Rows.{SeenRow, row_at, cell_at}
 use Rattle.body_match.specs.declared.lookup.Entry.{Entry}
-use Rattle.body_match.specs.declared.lookup.Probe.{Probe}
 use Rattle.body_match.specs.declared.levels.Level.{Level}
 use Rattle.body_match.specs.declared.places.Place.{Place}
 

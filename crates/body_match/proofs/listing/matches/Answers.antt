@@ -1,7 +1,5 @@
-use Rattle.std.proofs.Common.{◌≡◌, ◌↔◌, List, None, Contains, AllPairs}
-use Rattle.body_match.specs.declared.found.Match.{Match}
+use Rattle.std.proofs.Common.{None}
 use Rattle.body_match.specs.declared.listing.Listing.{Listing}
-use Rattle.body_match.specs.Matches.{IsMatch, StandsBefore}
 use Rattle.body_match.proofs.ListingLemmas.{lists_all}
 use Rattle.body_match.proofs.SnapshotLemmas.{all_at_instants}
 use Rattle.body_match.proofs.listing.matches.Goals as goal

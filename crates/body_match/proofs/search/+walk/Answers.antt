@@ -1,7 +1,7 @@
-use Rattle.std.proofs.Common.{◌≡◌, ℕ, ◌+◌, ◌<◌, ◌≤◌, true, false, Bool, List, Some, [], ◌∷◌, ◌++◌, length, get_or, refl, sym, ap, ◌∙◌, subst, arith}
+use Rattle.std.proofs.Common.{◌≡◌, ℕ, ◌<◌, ◌≤◌, true, false, Bool, List, Some, [], ◌∷◌, ◌++◌, length, refl, sym, ap, ◌∙◌, subst, arith}
 use Rattle.std.specs.Prelude.{slice_get}
 use Rattle.std.proofs.lemmas.Option.{slice_get_read}
-use Rattle.body_match.specs.Search.{IsListedFrom, Gives, AddsNext}
+use Rattle.body_match.specs.Search.{IsListedFrom, Gives}
 use Rattle.body_match.proofs.GiveLemmas.{IsListedBetween, gives_none, between_none, between_more, between_stop, between_all}
 use Rattle.body_match.proofs.search.+walk.Goals as goal
 

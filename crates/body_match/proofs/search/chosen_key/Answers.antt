@@ -1,8 +1,7 @@
-use Rattle.std.proofs.Common.{◌≡◌, ℕ, ◌+◌, ◌<◌, List, Option, Some, length, get_or, take, sym, ap, ◌∙◌}
+use Rattle.std.proofs.Common.{◌≡◌, ℕ, List, Some, get_or, take, sym, ap, ◌∙◌}
 use Rattle.std.proofs.lemmas.List.Sums.{fold_more}
-use Rattle.term_core.specs.declared.term.Seen.{Seen}
 use Rattle.body_match.specs.Keys.{mixed, mixed_some, key_of}
-use Rattle.body_match.specs.Search.{value_in, placed_value}
+use Rattle.body_match.specs.Search.{value_in}
 use Rattle.body_match.proofs.KeyLemmas.{value_read}
 use Rattle.body_match.proofs.search.chosen_key.Goals as goal
 

@@ -1,7 +1,6 @@
 use Rattle.std.proofs.Common.{◌≡◌, ℕ, List, Some, map, sym, ap, ◌∙◌, subst, All}
 use Rattle.std.specs.Prelude.{IsSome}
 use Rattle.term_core.specs.declared.term.Seen.{Seen}
-use Rattle.body_match.specs.declared.found.Match.{Match}
 use Rattle.body_match.specs.declared.places.Place.{Place}
 use Rattle.body_match.specs.Search.{IsListedFrom, cell_in}
 use Rattle.body_match.proofs.LeafLemmas.{placed_all, made, made_is_listed, only_made}

@@ -1,12 +1,11 @@
-use Rattle.std.proofs.Common.{◌≡◌, ℕ, ◌-◌, ◌<◌, ◌≤◌, List, Some, length, get_or, arith, refl, sym, ap, ◌∙◌, subst, All}
-use Rattle.std.specs.Prelude.{slice_get, IsSome}
+use Rattle.std.proofs.Common.{◌≡◌, ℕ, ◌-◌, ◌<◌, ◌≤◌, List, Some, length, get_or, arith, refl, sym, ap, ◌∙◌, subst}
+use Rattle.std.specs.Prelude.{slice_get}
 use Rattle.std.proofs.lemmas.Result.{on_ok_weaker}
 use Rattle.std.proofs.lemmas.Option.{slice_get_read}
 use Rattle.rule_core.specs.declared.rules.Atom.{Atom}
 use Rattle.body_match.specs.declared.levels.Level.{Level}
-use Rattle.body_match.specs.Lookup.{HasSought}
-use Rattle.body_match.specs.Keys.{AreBound, AreLevels, IsLevel}
-use Rattle.body_match.specs.Search.{Task, IsTask, value_in}
+use Rattle.body_match.specs.Keys.{AreBound, IsLevel}
+use Rattle.body_match.specs.Search.{Task, IsTask}
 use Rattle.body_match.proofs.SearchLemmas.{same_some, next_atom}
 use Rattle.body_match.proofs.KeyLemmas.{values_there, finds_next}
 use Rattle.body_match.proofs.search.look_up.Goals as goal

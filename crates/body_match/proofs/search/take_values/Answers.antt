@@ -1,4 +1,4 @@
-use Rattle.std.proofs.Common.{length, Some, List, [], ◌∷◌, ◌++◌, map, get_or, sym, ap, ◌∙◌}
+use Rattle.std.proofs.Common.{Some, List, [], ◌∷◌, ◌++◌, map, get_or, sym, ap, ◌∙◌}
 use Rattle.std.proofs.lemmas.List.{map_push, map_more}
 use Rattle.std.specs.Prelude.{IsSome}
 use Rattle.term_core.specs.declared.term.Seen.{Seen}

@@ -1,7 +1,6 @@
-use Rattle.std.proofs.Common.{◌+◌, ◌*◌, ◌<◌, sym, ◌∙◌, arith}
+use Rattle.std.proofs.Common.{◌<◌, sym, ◌∙◌, arith}
 use Rattle.std.proofs.lemmas.Bool.{false≢true}
 use Rattle.std.proofs.lemmas.Result.{on_ok_weaker}
-use Rattle.body_match.specs.Lookup.{AddsBelow}
 use Rattle.body_match.proofs.TreeLemmas.{adds_none_below, adds_both_below}
 use Rattle.body_match.proofs.lookup.Lookup.+gather_below.Goals as goal
 

@@ -1,6 +1,6 @@
 use Rattle.std.proofs.Common.{ℕ, subst}
 use Rattle.std.proofs.lemmas.Result.{on_ok_weaker}
-use Rattle.body_match.specs.Lookup.{AddsBelow, HasSought}
+use Rattle.body_match.specs.Lookup.{AddsBelow}
 use Rattle.body_match.proofs.TreeLemmas.{all_below}
 use Rattle.body_match.proofs.lookup.Lookup.gather.Goals as goal
 

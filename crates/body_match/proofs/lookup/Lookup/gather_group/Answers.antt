@@ -1,10 +1,9 @@
-use Rattle.std.proofs.Common.{◌≡◌, ◌+◌, ◌*◌, ◌<◌, ◌≤◌, length, min, refl, sym, ap, ◌∙◌, subst, ⊎_elim, arith, Some, pos, get_or, Contains}
+use Rattle.std.proofs.Common.{◌≡◌, ◌+◌, ◌*◌, ◌<◌, ◌≤◌, length, min, sym, ap, ◌∙◌, subst, ⊎_elim, arith, pos, get_or, Contains}
 use Rattle.std.specs.Prelude.{slice_get}
 use Rattle.std.proofs.lemmas.Bool.{cases_lt}
 use Rattle.std.proofs.lemmas.Option.{get_or_from_slice_get}
 use Rattle.body_match.specs.declared.lookup.Entry.{Entry}
 use Rattle.body_match.specs.Lookup.{IsSought}
-use Rattle.body_match.proofs.SearchLemmas.{same_some}
 use Rattle.body_match.proofs.TreeLemmas.{adds_leaf}
 use Rattle.body_match.proofs.lookup.Lookup.gather_group.Goals as goal
 
