@@ -2,7 +2,8 @@
 use Rattle.std.proofs.Common.{◌≡◌, ◌↔◌, ℤ, pos, ◌≤ℤ◌, ◌<ℤ◌, ◌-ℤ◌, Option, Some, None, refl, ap, arith}
 use Rattle.std.proofs.lemmas.Int.{ints, by_lt_z}
 use lib.Signed.{≤ℤ_refl}
-use Rattle.time_line.specs.Span.{Ends, IsFrom, IsBefore, Has, HasInstant}
+use Rattle.time_line.specs.Span.{Ends, IsFrom, IsBefore, Has, HasInstant, IsWithinLimit, IsSpan}
+use Rattle.body_match.specs.Keys.{start_number, stop_number}
 
 IsBefore-earlier : (hi : Option ℤ) (s t : ℤ) → s ≤ℤ t → IsBefore hi t → IsBefore hi s
 IsBefore-earlier None s t h f = tt
@@ -69,3 +70,14 @@ same_ends a b inside h =
     let start = same_start a b t inside.1 in_b (λ s. (h s).0) (λ s. (h s).1) a.lo b.lo refl refl in
     let stop = same_stop a b t inside.1 in_b (λ s. (h s).0) (λ s. (h s).1) a.hi b.hi refl refl in
     λ i. record { lo = start i; hi = stop i }
+
+-- a start is before a stop where some instant is from the one on and before the other
+start_before_stop : (lo hi : Option ℤ) (t : ℤ) → IsFrom lo t → IsBefore hi t → IsWithinLimit lo → IsWithinLimit hi
+    → start_number lo <ℤ stop_number hi
+start_before_stop None None t from before l h = omega (arith, ints)
+start_before_stop None (Some hi) t from before l h = omega (arith, ints, h.0)
+start_before_stop (Some lo) None t from before l h = omega (arith, ints, l.1)
+start_before_stop (Some lo) (Some hi) t from before l h = omega (arith, ints)
+
+pub meeting_ends : (a b : Ends) → IsSpan a → IsSpan b → (t : ℤ) → Has a t → Has b t → start_number a.lo <ℤ stop_number b.hi
+meeting_ends a b p q t in_a in_b = start_before_stop a.lo b.hi t in_a.0 in_b.1 p.start q.stop

@@ -1,5 +1,5 @@
 -- A row is chosen for each atom: the values, the match, and that there is no other.
-use Rattle.std.proofs.Common.{◌≡◌, ℕ, ◌<◌, ◌≤◌, Option, Some, List, [], ◌∷◌, ◌++◌, length, get_or, map, refl, sym, ap, ◌∙◌, subst, ⊎_elim, arith, All}
+use Rattle.std.proofs.Common.{◌≡◌, ℕ, ◌<◌, ◌≤◌, Option, Some, List, [], ◌++◌, length, get_or, map, refl, sym, ap, ◌∙◌, subst, ⊎_elim, arith, All}
 use Rattle.std.specs.Prelude.{slice_get, IsSome}
 use Rattle.std.specs.Option.{option_and_then}
 use Rattle.std.proofs.lemmas.Bool.{cases_lt}
@@ -13,11 +13,10 @@ use Rattle.rule_core.specs.declared.rules.Atom.{Atom}
 use Rattle.fact_table.specs.Rows.{cell_at}
 use Rattle.body_match.specs.declared.found.Match.{Match}
 use Rattle.body_match.specs.Matches.{seen_value, IsImageAt, HoldsAt, IsMatch}
-use Rattle.body_match.specs.Search.{Task, IsTask, cell_in, placed_value, IsPartial, BeginsWith, Use, IsListedFrom, Adds}
+use Rattle.body_match.specs.Search.{Task, IsTask, cell_in, placed_value, IsPartial, BeginsWith, IsListedFrom}
 use Rattle.body_match.proofs.ListLemmas.{at_within, within_from_at, at_map, at_from_map, same_at_each, zip_from_each, zip_length}
 use Rattle.body_match.proofs.EndsLemmas.{same_ends}
 use Rattle.body_match.proofs.SearchLemmas.{same_some, image_cell, placed_in_match}
-use Rattle.body_match.proofs.AddsLemmas.{adds_one}
 
 module _ (task : Task) (ok : IsTask task) (chosen : List ℕ) (span : Ends) (partial : IsPartial task chosen span)
     (whole : length chosen ≡ length task.body) where
@@ -35,14 +34,11 @@ module _ (task : Task) (ok : IsTask task) (chosen : List ℕ) (span : Ends) (par
       within_body k atom e = within_from_at task.body k atom e
 
   -- a match is another one's only if its rows begin so
-  same_rows : (m : Match) → IsMatch task.body (length task.places) task.rows m → BeginsWith chosen m.rows → chosen ≡ m.rows
+  pub same_rows : (m : Match) → IsMatch task.body (length task.places) task.rows m → BeginsWith chosen m.rows → chosen ≡ m.rows
   same_rows m h begins =
       let long = zip_length (IsImageAt task.rows (seen_value m.binding)) task.body m.rows h.images in
       let size : length begins.0 ≡ 0 = omega (arith, long, whole, ap length begins.1, length-append chosen begins.0) in
       sym (begins.1 ∙ ap (λ l. chosen ++ l) (nil_from_length begins.0 size) ∙ append-nil chosen)
-
-  pub none_wanted : (Use task.wanted chosen → ⊥) → (m : Match) → IsListedFrom task chosen m → ⊥
-  none_wanted unused m h = unused (subst (Use task.wanted) (sym (same_rows m h.0.whole h.1)) h.0.used)
 
   module _ (binding : List Seen) (values : map Some binding ≡ map (cell_in task chosen) task.places) where
     size : length binding ≡ length task.places
@@ -77,7 +73,7 @@ module _ (task : Task) (ok : IsTask task) (chosen : List ℕ) (span : Ends) (par
 
     pub only_made : (m : Match) → IsListedFrom task chosen m → made ≡ m
     only_made m h =
-        let match = h.0.whole in
+        let match = h.0 in
         let rows = same_rows m match h.1 in
         let same_binding : binding ≡ m.binding = same_at_each binding m.binding (size ∙ sym match.values) (λ v x y p q.
         let place = at_within task.places v (omega (arith, within_from_at binding v x p, size)) in
@@ -93,6 +89,5 @@ module _ (task : Task) (ok : IsTask task) (chosen : List ℕ) (span : Ends) (par
         )) in
         λ i. record { rows = rows i; binding = same_binding i; span = same_span i }
 
-    pub made_added : (old new : List Match) → Use task.wanted chosen → new ≡ old ++ made ∷ [] → Adds (IsListedFrom task chosen) old new
-    made_added old new used e = adds_one (IsListedFrom task chosen) old new made e
-        (record { whole = made_is_match; used = used }, ([], sym (append-nil chosen))) only_made
+    pub made_is_listed : IsListedFrom task chosen made
+    made_is_listed = (made_is_match, ([], sym (append-nil chosen)))

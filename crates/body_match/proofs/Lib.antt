@@ -1,7 +1,13 @@
 pub mod ListLemmas
 pub mod PlaceLemmas
+pub mod TreeLemmas
 pub mod SearchLemmas
 pub mod EndsLemmas
-pub mod AddsLemmas
+pub mod KeyLemmas
 pub mod LeafLemmas
+pub mod NextLemmas
+pub mod VisitLemmas
+pub mod GiveLemmas
+pub mod ExistLemmas
+pub mod ListingLemmas
 pub mod SnapshotLemmas

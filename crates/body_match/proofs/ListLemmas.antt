@@ -1,6 +1,6 @@
 -- Lists by what stands at a place, and lists side by side.
 use Rattle.std.proofs.Common.{◌≡◌, ◌⊎◌, inl, inr, ℕ, zero, suc, ◌<◌, Some, List, [], ◌∷◌, ◌++◌, length, get_or, map, refl, sym, ap, ◌∙◌, subst, arith, Contains}
-use Rattle.std.specs.Prelude.{slice_get}
+use Rattle.std.specs.Prelude.{slice_get, slice_set}
 use Rattle.std.specs.List.{AllZip}
 
 -- what stands within a list
@@ -108,3 +108,21 @@ zip_from_each R [] (y ∷ ys) e h = absurd (omega (arith, e))
 zip_from_each R (x ∷ xs) [] e h = absurd (omega (arith, e))
 zip_from_each R (x ∷ xs) (y ∷ ys) e h =
     (h 0 x y refl refl, zip_from_each R xs ys (omega (arith, e)) (λ k a b p q. h (suc k) a b p q))
+
+-- what stands in a list after one place was set
+pub at_set_here : {X : Type 0} (xs : List X) (k : ℕ) (x : X) → k < length xs → slice_get (slice_set xs k x) k ≡ Some x
+at_set_here [] k x l = absurd (omega (arith, l))
+at_set_here (y ∷ ys) zero x l = refl
+at_set_here (y ∷ ys) (suc k) x l = at_set_here ys k x (omega (arith, l))
+
+pub at_set_other : {X : Type 0} (xs : List X) (k j : ℕ) (x : X) → ¬ (j ≡ k) → slice_get (slice_set xs k x) j ≡ slice_get xs j
+at_set_other [] k j x other = refl
+at_set_other (y ∷ ys) zero zero x other = absurd (other refl)
+at_set_other (y ∷ ys) zero (suc j) x other = refl
+at_set_other (y ∷ ys) (suc k) zero x other = refl
+at_set_other (y ∷ ys) (suc k) (suc j) x other = at_set_other ys k j x (λ e. other (ap suc e))
+
+pub size_set : {X : Type 0} (xs : List X) (k : ℕ) (x : X) → length (slice_set xs k x) ≡ length xs
+size_set [] k x = refl
+size_set (y ∷ ys) zero x = refl
+size_set (y ∷ ys) (suc k) x = ap suc (size_set ys k x)

@@ -91,7 +91,7 @@ module _ (task : Task) (ok : IsTask task) where
       (p.0, p.1, first, first.first k atom e arg)
 
   -- a variable stands for the cell at its place
-  placed_var : (chosen : List ℕ) (v n : ℕ) (place : Place) → slice_get task.places v ≡ Some place → slice_get chosen place.atom ≡ Some n
+  pub placed_var : (chosen : List ℕ) (v n : ℕ) (place : Place) → slice_get task.places v ≡ Some place → slice_get chosen place.atom ≡ Some n
       → placed_value task chosen (Var v) ≡ cell_at task.rows n place.column
   placed_var chosen v n place e c =
       ap (option_and_then (cell_in task chosen)) e ∙ ap (option_and_then (λ m. cell_at task.rows m place.column)) c
@@ -139,18 +139,18 @@ module _ (task : Task) (ok : IsTask task) where
 
     -- in a match with these rows, the last is the next atom's image
     pub next_image : (found : Match) → IsListedFrom task front found → IsImageAt task.rows (seen_value found.binding) atom number
-    next_image found h = row_in_match found h.0.whole front (length chosen) number atom h.1 next (at_seam chosen number [])
+    next_image found h = row_in_match found h.0 front (length chosen) number atom h.1 next (at_seam chosen number [])
 
     pub next_agrees : (found : Match) → IsListedFrom task front found → Agrees task front atom number
     next_agrees found h k arg a =
         let cell = image_cell task.rows (seen_value found.binding) atom number k arg (next_image found h) a in
-        cell.1 ∙ sym cell.2 ∙ sym (placed_in_match found h.0.whole front (length chosen) k atom arg h.1 next a (omega (arith, size)))
+        cell.1 ∙ sym cell.2 ∙ sym (placed_in_match found h.0 front (length chosen) k atom arg h.1 next a (omega (arith, size)))
 
     -- and all have an instant in common
     pub next_meets : (found : Match) → IsListedFrom task front found → (t : ℤ) × Has span t × HoldsAt task.rows t number
     next_meets found h =
-        let t = h.0.whole.instant in
-        let all = (h.0.whole.common t.0).0 t.1 in
+        let t = h.0.instant in
+        let all = (h.0.common t.0).0 t.1 in
         let each : (n : ℕ) → Contains front n → HoldsAt task.rows t.0 n = λ n c.
         All-contains (HoldsAt task.rows t.0) found.rows n all
         (subst (λ l. Contains l n) (sym h.1.1) (Contains-append_left front h.1.0 n c)) in (

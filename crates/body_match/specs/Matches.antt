@@ -1,5 +1,5 @@
 -- Matches of a body in the rows of a store: a row for each atom, a value for each variable, and the common instants.
-use Rattle.std.specs.Prelude.{◌≡◌, ◌↔◌, ℕ, ℤ, List, Option, Some, IsSomeAnd, All, length, map, slice_get}
+use Rattle.std.specs.Prelude.{◌≡◌, ◌↔◌, ℕ, ℤ, List, Option, Some, IsSomeAnd, All, AllPairs, Contains, length, map, slice_get}
 use Rattle.std.specs.List.{AllZip}
 use Rattle.std.specs.declared.cmp.Ordering.TheVariants.{Less}
 use Rattle.std.specs.Ordering.{nat_cmp}
@@ -42,3 +42,8 @@ pub record IsMatch (body : List Atom) (vars : ℕ) (rows : List (Option SeenRow)
 -- the order of matches: by their rows, from left to right
 abbrev pub StandsBefore : Match → Match → Type 0
 StandsBefore a b = slice_cmp nat_cmp a.rows b.rows ≡ Less
+
+-- the list has exactly the matches, each once, in order
+pub record AreMatches (body : List Atom) (vars : ℕ) (rows : List (Option SeenRow)) (list : List Match) : Type 0 where
+  pub each : (found : Match) → Contains list found ↔ IsMatch body vars rows found
+  pub ordered : AllPairs StandsBefore list

@@ -1,6 +1,5 @@
 -- What is searched for, what a search has chosen, and what it adds. No public clause cites this module.
-use Rattle.std.specs.Prelude.{◌≡◌, ◌↔◌, ℕ, ℤ, ◌≤◌, List, ◌++◌, Option, Some, None, All, AllPairs, Contains, length, slice_get}
-use Rattle.std.specs.Bool.{⊤}
+use Rattle.std.specs.Prelude.{◌≡◌, ◌↔◌, ℕ, ℤ, ◌≤◌, ◌<◌, ◌+◌, ◌⊎◌, List, [], ◌∷◌, ◌++◌, Option, Some, Bool, true, All, AllPairs, Contains, length, take, slice_get}
 use Rattle.std.specs.Option.{option_and_then}
 use Rattle.time_line.specs.Span.{Ends, Has, HasInstant}
 use Rattle.term_core.specs.declared.term.Seen.{Seen}
@@ -12,23 +11,28 @@ use Rattle.fact_table.specs.Rows.{SeenRow, cell_at}
 use Rattle.body_match.specs.declared.found.Match.{Match}
 use Rattle.body_match.specs.declared.places.Place.{Place}
 use Rattle.body_match.specs.Matches.{IsMatch, IsImageAt, HoldsAt, StandsBefore}
+use Rattle.body_match.specs.declared.levels.Level.{Level}
 use Rattle.body_match.specs.Places.{AreFirstPlaces, OccurBelow}
+use Rattle.body_match.specs.Keys.{AreLevels}
+use Rattle.body_match.specs.Visits.{TakesInTurn}
 
--- a body, a place for each of its variables, the rows of a store, and a row that each match is to use, if there is one
+-- a body, a place for each of its variables, the rows of a store, and a level for each atom but the first
 pub record Task : Type 0 where
   pub body : List Atom
   pub places : List Place
   pub rows : List (Option SeenRow)
-  pub wanted : Option ℕ
+  pub levels : List Level
 
 -- what is searched for, from its parts
-abbrev pub task_of : List Atom → List Place → List (Option SeenRow) → Option ℕ → Task
-task_of body places rows wanted = record { body = body; places = places; rows = rows; wanted = wanted }
+abbrev pub task_of : List Atom → List Place → List (Option SeenRow) → List Level → Task
+task_of body places rows levels = record { body = body; places = places; rows = rows; levels = levels }
 
--- the places are those of exactly the variables that occur
+-- the places are those of exactly the variables that occur, and the levels list the rows
 pub record IsTask (task : Task) : Type 0 where
   pub places : AreFirstPlaces task.body (length task.places) task.places
   pub vars : OccurBelow (length task.places) task.body
+  pub size : length task.body ≤ length task.levels + 1
+  pub levels : AreLevels task.body task.places task.rows (length task.body) task.levels
 
 -- the cell at a place, where rows are chosen for the first atoms
 abbrev pub cell_in : Task → List ℕ → Place → Option Seen
@@ -57,25 +61,35 @@ pub record IsPartial (task : Task) (chosen : List ℕ) (span : Ends) : Type 0 wh
 abbrev pub BeginsWith : List ℕ → List ℕ → Type 0
 BeginsWith front list = (rest : List ℕ) × (list ≡ front ++ rest)
 
--- the rows have the one that is wanted, if one is
-abbrev pub Use : Option ℕ → List ℕ → Type 0
-Use None numbers = ⊤
-Use (Some row) numbers = Contains numbers row
-
--- a match that uses the row that is wanted
-pub record IsListed (task : Task) (found : Match) : Type 0 where
-  pub whole : IsMatch task.body (length task.places) task.rows found
-  pub used : Use task.wanted found.rows
-
--- one of them whose rows begin with these
+-- a match whose rows begin with these
 abbrev pub IsListedFrom : Task → List ℕ → Match → Type 0
-IsListedFrom task chosen found = IsListed task found × BeginsWith chosen found.rows
+IsListedFrom task chosen found = IsMatch task.body (length task.places) task.rows found × BeginsWith chosen found.rows
 
--- the list has exactly what is so, in order
-pub record Lists (IsSo : Match → Type 0) (list : List Match) : Type 0 where
-  pub each : (found : Match) → Contains list found ↔ IsSo found
+-- what an argument in a column of an atom stands for
+abbrev pub value_in : Task → List ℕ → Atom → ℕ → Option Seen
+value_in task chosen atom column = option_and_then (placed_value task chosen) (slice_get atom.args column)
+
+-- all rows that may be chosen next are there
+abbrev pub HasNext : Task → List ℕ → List ℕ → Type 0
+HasNext task chosen rows = (found : Match) (number : ℕ) → IsListedFrom task (chosen ++ number ∷ []) found → Contains rows number
+
+-- behind the list stand all rows that may be chosen next, in order, each once
+pub record AddsNext (task : Task) (chosen old new : List ℕ) : Type 0 where
+  pub kept : take (length old) new ≡ old
+  pub longer : length old ≤ length new
+  pub ascending : (j k a b : ℕ) → length old ≤ j → j < k → slice_get new j ≡ Some a → slice_get new k ≡ Some b → a < b
+  pub all : (found : Match) (number : ℕ) → IsListedFrom task (chosen ++ number ∷ []) found
+      → (k : ℕ) × (length old ≤ k) × (slice_get new k ≡ Some number)
+
+-- the list has of what is so the first ones, in order
+pub record IsFirstPart (IsSo : Match → Type 0) (list : List Match) : Type 0 where
+  pub each : (found : Match) → Contains list found → IsSo found
   pub ordered : AllPairs StandsBefore list
+  pub later : (found : Match) → IsSo found → Contains list found ⊎ ((other : Match) → Contains list other → StandsBefore other found)
 
--- behind the list stands exactly what is so, in order
-abbrev pub Adds : (Match → Type 0) → List Match → List Match → Type 0
-Adds IsSo old new = (more : List Match) × (new ≡ old ++ more) × Lists IsSo more
+-- what takes matches was given of what is so the first ones in turn, and all of them if it wanted more to the end
+pub record Gives {S : Type 0} (takes : S → Match → S → Type 0) (IsSo : Match → Type 0) (old new : S) (more : Bool) : Type 0 where
+  pub list : List Match
+  pub first : IsFirstPart IsSo list
+  pub whole : more ≡ true → (found : Match) → IsSo found → Contains list found
+  pub taken : TakesInTurn takes old list new

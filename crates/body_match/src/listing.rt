@@ -1,15 +1,14 @@
 //! The lists of matches.
 
-ghost use Rattle.std.specs.Prelude.{◌↔◌, ◌<◌, ◌≤◌, ℕ, AllPairs, Contains, length, IfOk};
+ghost use Rattle.std.specs.Prelude.{◌≡◌, ◌↔◌, ◌<◌, ◌≤◌, ◌++◌, ◌∷◌, [], ℕ, AllPairs, Contains, length, IsTrue, IfOk};
 ghost use Rattle.rule_core.specs.Validity.{occurrences};
 ghost use Rattle.body_match.specs.declared.found.Match.{Match};
 ghost use Rattle.body_match.specs.Matches.{IsMatch, StandsBefore};
 ghost use Rattle.body_match.specs.Snapshots.{AreMatchesAtInstants};
-ghost use Rattle.body_match.specs.Search.{Lists, Use};
+ghost use Rattle.body_match.specs.Listings.{Use};
 
-use crate::Match;
-use crate::places::first_places;
-use crate::search::{Search, list};
+use crate::visit::visit_matches;
+use crate::{Match, Visitor};
 use fact_table::FactSource;
 use rule_core::Atom;
 use std::alloc::Global;
@@ -31,7 +30,13 @@ pub fn matches<F: FactSource, L: Ledger>(
     ensures order { IfOk result (AllPairs StandsBefore) }
     ensures snapshots { IfOk result (AreMatchesAtInstants body.now (F.rows source.now)) }
 {
-    found_in(alloc, body, vars, source, None, steps)
+    let mut list = Listing {
+        alloc,
+        row: None,
+        list: Vec::new(alloc),
+    };
+    visit_matches(alloc, body, vars, source, &mut list, steps)?;
+    Ok(Items::from_vec(list.list))
 }
 
 /// Those matches that use the row with a number, in the same order.
@@ -49,24 +54,58 @@ pub fn matches_with<F: FactSource, L: Ledger>(
         ↔ (IsMatch body.now vars (F.rows source.now) found × Contains found.rows row)) }
     ensures order { IfOk result (AllPairs StandsBefore) }
 {
-    found_in(alloc, body, vars, source, Some(row), steps)
+    let mut list = Listing {
+        alloc,
+        row: Some(row),
+        list: Vec::new(alloc),
+    };
+    visit_matches(alloc, body, vars, source, &mut list, steps)?;
+    Ok(Items::from_vec(list.list))
 }
 
-// All matches, or those that use the row that is wanted, if one is.
-fn found_in<F: FactSource, L: Ledger>(
+// A list of the matches so far, or of those that use a row.
+#[derive(Drop)]
+struct Listing {
     alloc: Global,
-    body: &Items<Atom>,
-    vars: u32,
-    source: &F,
-    wanted: Option<usize>,
-    steps: &mut Steps<L>,
-) -> Result<Items<Match>, Memory>
-    requires { (v : ℕ) → Contains (occurrences body.now) v ↔ (v < vars) }
-    ensures { IfOk result (Lists (λ found.
-        IsMatch body.now vars (F.rows source.now) found × Use wanted found.rows)) }
+    row: Option<usize>,
+    list: Vec<Match>,
+}
+
+impl Listing {
+    // Whether a match uses the row that is wanted, if one is.
+    fn wants(&self, found: &Match) -> bool
+        ensures { IsTrue result ↔ Use self.now.row found.now.rows }
+    {
+        match self.row {
+            Some(row) => found.rows.as_slice().contains(&row),
+            None => true,
+        }
+    }
+}
+
+impl Visitor for Listing {
+    ghost use Rattle.body_match.specs.Listings.{Adds};
+
+    ghost takes = { λ old found new. Adds old found new };
+
+    ghost stops = { λ _. ⊥ };
+
+    fn visit(&mut self, found: &Match) -> Result<bool, Memory> {
+        if self.wants(found) {
+            let copy = copy_of(self.alloc, found)?;
+            self.list.push(copy)?;
+        }
+        Ok(true)
+    }
+}
+
+// A copy of a match.
+fn copy_of(alloc: Global, found: &Match) -> Result<Match, Memory>
+    ensures { IfOk result (λ copy. copy ≡ found.now) }
 {
-    let atoms = body.as_slice();
-    let places = first_places(alloc, atoms, vars)?;
-    let search = Search::new(atoms, places.as_slice(), source, wanted);
-    list(alloc, &search, steps)
+    Ok(Match {
+        rows: Items::from_vec(found.rows.as_slice().to_vec(alloc)?),
+        binding: Items::from_vec(found.binding.as_slice().to_vec(alloc)?),
+        span: found.span,
+    })
 }

@@ -1,30 +1,34 @@
 //! The search: a row for each atom in turn, where it agrees with the rows before it and has an instant in common
 //! with them.
 
-ghost use Rattle.std.specs.Prelude.{◌≡◌, ◌↔◌, ◌<◌, ◌≤◌, ◌∷◌, ◌++◌, [], ℤ, Some, All, IsSome, IsSomeAnd, length, map, slice_get, IsTrue, IfSome, IfNone, IfOk, OnOk};
+ghost use Rattle.std.specs.Prelude.{◌≡◌, ◌↔◌, ◌<◌, ◌≤◌, ◌-◌, ◌∷◌, ◌++◌, [], ℕ, ℤ, Some, All, Contains, IsSome, IsSomeAnd, length, map, slice_get, false, IsTrue, IfSome, IfNone, IfOk, OnOk};
 ghost use Rattle.time_line.specs.Span.{Has};
 ghost use Rattle.fact_table.specs.Rows.{HasCell, cell_at, head_at, row_at};
 ghost use Rattle.body_match.specs.declared.found.Match.{Match};
-ghost use Rattle.body_match.specs.Search.{IsTask, Agrees, IsPartial, IsListed, IsListedFrom, Use, Adds, Lists, task_of, cell_in, placed_value};
+ghost use Rattle.body_match.specs.Matches.{IsMatch};
+ghost use Rattle.body_match.specs.Keys.{key_of};
+ghost use Rattle.body_match.specs.Search.{IsTask, Agrees, AddsNext, Gives, HasNext, IsPartial, IsListedFrom, task_of, cell_in, placed_value, value_in};
 
-use crate::Match;
+use crate::levels::{Level, has_form, mix, probe_of};
 use crate::places::Place;
+use crate::{Match, Visitor};
 use fact_table::{FactSource, RowHead};
 use rule_core::{Arg, Atom};
 use std::alloc::Global;
 use std::marker::Model;
+use std::mem::replace;
 use std::sync::ledger::Ledger;
 use term_core::{Items, Memory, Seen, Steps};
 use time_line::Span;
 
-/// What is searched for: a body, a place in the first atom that has a variable, a store, and a row that each match is to
-/// use, if there is one.
+/// What is searched for: a body, for each variable a place in the first atom that has it, a store, and for each atom but the
+/// first the rows of its form.
 #[derive(Drop)]
 pub struct Search<'a, F: FactSource> {
     body: &'a [Atom],
     places: &'a [Place],
     source: &'a F,
-    wanted: Option<usize>,
+    levels: &'a [Level],
 }
 
 impl<'a, F: FactSource> Model for Search<'a, F> {
@@ -32,9 +36,9 @@ impl<'a, F: FactSource> Model for Search<'a, F> {
 
     ghost Value = { Task };
 
-    ghost view = { λ s. task_of s.body.now s.places.now (F.rows s.source.now) s.wanted };
+    ghost view = { λ s. task_of s.body.now s.places.now (F.rows s.source.now) s.levels.now };
 
-    ghost invariant = { λ s. IsTask (task_of s.body.now s.places.now (F.rows s.source.now) s.wanted) };
+    ghost invariant = { λ s. IsTask (task_of s.body.now s.places.now (F.rows s.source.now) s.levels.now) };
 }
 
 impl<'a, F: FactSource> Search<'a, F> {
@@ -43,16 +47,16 @@ impl<'a, F: FactSource> Search<'a, F> {
         body: &'a [Atom],
         places: &'a [Place],
         source: &'a F,
-        wanted: Option<usize>,
+        levels: &'a [Level],
     ) -> Search<'a, F>
-        requires { IsTask (task_of body.now places.now (F.rows source.now) wanted) }
-        ensures { result ≡ task_of body.now places.now (F.rows source.now) wanted }
+        requires { IsTask (task_of body.now places.now (F.rows source.now) levels.now) }
+        ensures { result ≡ task_of body.now places.now (F.rows source.now) levels.now }
     {
         Search {
             body,
             places,
             source,
-            wanted,
+            levels,
         }
     }
 
@@ -66,14 +70,16 @@ impl<'a, F: FactSource> Search<'a, F> {
 
     /// The places of the variables.
     fn places(&self) -> &'a [Place]
-        ensures { result.now ≡ self.now.places }
+        ensures value { result.now ≡ self.now.places }
+        ensures task { IsTask self.now }
     {
         self.places
     }
 
     /// Above the number of each row.
     fn bound(&self) -> usize
-        ensures { result ≡ length self.now.rows }
+        ensures value { result ≡ length self.now.rows }
+        ensures task { IsTask self.now }
     {
         self.source.bound()
     }
@@ -93,30 +99,44 @@ impl<'a, F: FactSource> Search<'a, F> {
         self.source.cell(row, column, steps)
     }
 
-    /// Whether the rows have the one that is wanted, if one is.
-    fn is_wanted(&self, chosen: &[usize]) -> bool
-        ensures value { IsTrue result ↔ Use self.now.wanted chosen.now }
+    /// The levels of the atoms behind the first.
+    fn levels(&self) -> &'a [Level]
+        ensures value { result.now ≡ self.now.levels }
         ensures task { IsTask self.now }
     {
-        match self.wanted {
-            Some(row) => chosen.contains(&row),
-            None => true,
-        }
+        self.levels
     }
 }
 
-/// All matches that are searched for, in order.
-pub fn list<F: FactSource, L: Ledger>(
+/// The rows that are chosen for the first atoms, the rows that may be chosen next, those that were found last, and the values of
+/// a match.
+#[derive(Drop)]
+pub struct Walk {
+    chosen: Vec<usize>,
+    next: Vec<usize>,
+    found: Vec<usize>,
+    values: Vec<Seen>,
+}
+
+/// Gives a visitor all matches that are searched for in turn, in order, until it wants no more. Answers whether it wanted more
+/// to the end.
+pub fn visit_all<F: FactSource, V: Visitor, L: Ledger>(
     alloc: Global,
     search: &Search<'_, F>,
+    visitor: &mut V,
     steps: &mut Steps<L>,
-) -> Result<Items<Match>, Memory>
-    ensures { IfOk result (Lists (IsListed search.now)) }
+) -> Result<bool, Memory>
+    ensures gives { IfOk result (Gives V.takes (IsMatch search.now.body (length search.now.places) search.now.rows)
+        visitor.old visitor.new) }
+    ensures stops { IfOk result (λ more. more ≡ false → V.stops visitor.new) }
 {
-    let mut chosen = Vec::with_capacity(alloc, search.body().len())?;
-    let mut found = Vec::new(alloc);
-    extend(alloc, search, &mut chosen, always(), &mut found, steps)?;
-    Ok(Items::from_vec(found))
+    let mut walk = Walk {
+        chosen: Vec::with_capacity(alloc, search.body().len())?,
+        next: Vec::new(alloc),
+        found: Vec::new(alloc),
+        values: Vec::with_capacity(alloc, search.places().len())?,
+    };
+    extend(alloc, search, &mut walk, always(), visitor, steps)
 }
 
 // The span of all instants.
@@ -126,54 +146,174 @@ fn always() -> Span
     Span::make(None, None).unwrap()
 }
 
-// Adds all matches whose rows begin with the chosen ones.
+// Gives all matches whose rows begin with the chosen ones.
 #[cycle(walk)]
-fn extend<F: FactSource, L: Ledger>(
+fn extend<F: FactSource, V: Visitor, L: Ledger>(
     alloc: Global,
     search: &Search<'_, F>,
-    chosen: &mut Vec<usize>,
+    walk: &mut Walk,
     span: Span,
-    found: &mut Vec<Match>,
+    visitor: &mut V,
+    steps: &mut Steps<L>,
+) -> Result<bool, Memory>
+    requires { IsPartial search.now walk.old.chosen.items span }
+    ensures chosen { OnOk result (walk.new.chosen.items ≡ walk.old.chosen.items) }
+    ensures next { OnOk result (walk.new.next.items ≡ walk.old.next.items) }
+    ensures gives { IfOk result (Gives V.takes (IsListedFrom search.now walk.old.chosen.items)
+        visitor.old visitor.new) }
+    ensures stops { IfOk result (λ more. more ≡ false → V.stops visitor.new) }
+{
+    if walk.chosen.len() == search.body().len() {
+        return give(alloc, search, walk, span, visitor, steps);
+    }
+    let first = walk.next.len();
+    find_next(search, walk, &span, steps)?;
+    for at in first..walk.next.len() {
+        let row = walk.next[at];
+        if !extend_by(alloc, search, walk, &span, row, visitor, steps)? {
+            walk.next.truncate(first);
+            return Ok(false);
+        }
+    }
+    walk.next.truncate(first);
+    Ok(true)
+}
+
+// Gives all matches whose rows begin with the chosen ones and this one.
+#[cycle(walk)]
+fn extend_by<F: FactSource, V: Visitor, L: Ledger>(
+    alloc: Global,
+    search: &Search<'_, F>,
+    walk: &mut Walk,
+    span: &Span,
+    row: usize,
+    visitor: &mut V,
+    steps: &mut Steps<L>,
+) -> Result<bool, Memory>
+    requires partial { IsPartial search.now walk.old.chosen.items span.now }
+    requires more { length walk.old.chosen.items < length search.now.body }
+    ensures chosen { OnOk result (walk.new.chosen.items ≡ walk.old.chosen.items) }
+    ensures next { OnOk result (walk.new.next.items ≡ walk.old.next.items) }
+    ensures gives { IfOk result (Gives V.takes
+        (IsListedFrom search.now (walk.old.chosen.items ++ row ∷ [])) visitor.old visitor.new) }
+    ensures stops { IfOk result (λ more. more ≡ false → V.stops visitor.new) }
+{
+    let Some(common) = common_span(search, walk.chosen.as_slice(), span, row, steps) else {
+        return Ok(true);
+    };
+    walk.chosen.push(row)?;
+    let more = extend(alloc, search, walk, common, visitor, steps)?;
+    walk.chosen.pop();
+    Ok(more)
+}
+
+// Adds the rows that may be chosen next, in order, each once.
+fn find_next<F: FactSource, L: Ledger>(
+    search: &Search<'_, F>,
+    walk: &mut Walk,
+    span: &Span,
     steps: &mut Steps<L>,
 ) -> Result<(), Memory>
-    requires { IsPartial search.now chosen.old.items span }
-    ensures chosen { OnOk result (chosen.new.items ≡ chosen.old.items) }
-    ensures adds { OnOk result
-        (Adds (IsListedFrom search.now chosen.old.items) found.old.items found.new.items) }
+    requires partial { IsPartial search.now walk.old.chosen.items span.now }
+    requires more { length walk.old.chosen.items < length search.now.body }
+    ensures chosen { OnOk result (walk.new.chosen.items ≡ walk.old.chosen.items) }
+    ensures next { OnOk result (AddsNext search.now walk.old.chosen.items
+        walk.old.next.items walk.new.next.items) }
 {
-    if chosen.len() == search.body().len() {
-        return keep(alloc, search, chosen.as_slice(), span, found, steps);
+    walk.found.clear();
+    find(search, walk.chosen.as_slice(), span, &mut walk.found, steps)?;
+    walk.found.sort_unstable();
+    walk.found.dedup();
+    let found = walk.found.as_slice();
+    walk.next.extend_from_slice(found)?;
+    Ok(())
+}
+
+// Finds at least the rows that may be chosen next.
+fn find<F: FactSource, L: Ledger>(
+    search: &Search<'_, F>,
+    chosen: &[usize],
+    span: &Span,
+    found: &mut Vec<usize>,
+    steps: &mut Steps<L>,
+) -> Result<(), Memory>
+    requires partial { IsPartial search.now chosen.now span.now }
+    requires more { length chosen.now < length search.now.body }
+    ensures { OnOk result (HasNext search.now chosen.now found.new.items) }
+{
+    if chosen.is_empty() {
+        find_all(search, found)
+    } else {
+        look_up(search, chosen, span, found, steps)
     }
+}
+
+// Finds all rows.
+fn find_all<F: FactSource>(search: &Search<'_, F>, found: &mut Vec<usize>) -> Result<(), Memory>
+    ensures all { OnOk result ((row : ℕ) → row < length search.now.rows → Contains found.new.items row) }
+    ensures task { IsTask search.now }
+{
     for row in 0..search.bound() {
-        extend_by(alloc, search, chosen, &span, row, found, steps)?;
+        found.push(row)?;
     }
     Ok(())
 }
 
-// Adds all matches whose rows begin with the chosen ones and this one.
-#[cycle(walk)]
-fn extend_by<F: FactSource, L: Ledger>(
-    alloc: Global,
+// Finds at least the rows that may be chosen behind the first.
+fn look_up<F: FactSource, L: Ledger>(
     search: &Search<'_, F>,
-    chosen: &mut Vec<usize>,
+    chosen: &[usize],
     span: &Span,
-    row: usize,
-    found: &mut Vec<Match>,
+    found: &mut Vec<usize>,
     steps: &mut Steps<L>,
 ) -> Result<(), Memory>
-    requires partial { IsPartial search.now chosen.old.items span.now }
-    requires more { length chosen.old.items < length search.now.body }
-    ensures chosen { OnOk result (chosen.new.items ≡ chosen.old.items) }
-    ensures adds { OnOk result (Adds (IsListedFrom search.now (chosen.old.items ++ row ∷ []))
-        found.old.items found.new.items) }
+    requires partial { IsPartial search.now chosen.now span.now }
+    requires first { 1 ≤ length chosen.now }
+    requires more { length chosen.now < length search.now.body }
+    ensures { OnOk result (HasNext search.now chosen.now found.new.items) }
 {
-    let Some(common) = common_span(search, chosen.as_slice(), span, row, steps) else {
-        return Ok(());
-    };
-    chosen.push(row)?;
-    extend(alloc, search, chosen, common, found, steps)?;
-    chosen.pop();
-    Ok(())
+    let level = &search.levels()[chosen.len() - 1];
+    let atom = &search.body()[chosen.len()];
+    let key = chosen_key(search, chosen, atom, level.columns.as_slice(), steps);
+    level.lookup.gather(&probe_of(key, span), found)
+}
+
+// The key of what the arguments in columns of the next atom stand for.
+fn chosen_key<F: FactSource, L: Ledger>(
+    search: &Search<'_, F>,
+    chosen: &[usize],
+    atom: &Atom,
+    columns: &[usize],
+    steps: &mut Steps<L>,
+) -> u64
+    requires { All (λ column. IsSome (value_in search.now chosen.now atom.now column)) columns.now }
+    ensures { result ≡ key_of (value_in search.now chosen.now atom.now) columns.now }
+{
+    let args = atom.args.as_slice();
+    let mut key = 0;
+    for column in columns {
+        key = mix(key, chosen_value(search, chosen, args[*column], steps));
+    }
+    key
+}
+
+// What an argument stands for by the chosen rows.
+fn chosen_value<F: FactSource, L: Ledger>(
+    search: &Search<'_, F>,
+    chosen: &[usize],
+    arg: Arg,
+    steps: &mut Steps<L>,
+) -> Seen
+    requires { IsSome (placed_value search.now chosen.now arg) }
+    ensures { placed_value search.now chosen.now arg ≡ Some result }
+{
+    match arg {
+        Arg::Const(constant) => Seen::Const(constant),
+        Arg::Var(variable) => {
+            let place = search.places()[variable as usize];
+            search.cell(chosen[place.atom], place.column, steps)
+        }
+    }
 }
 
 // What the chosen rows and this one have in common, where it is the next atom's image and there is such an instant.
@@ -201,14 +341,6 @@ fn common_span<F: FactSource, L: Ledger>(
     } else {
         None
     }
-}
-
-// Whether a row with this head has the atom's relation and as many cells as the atom has arguments.
-fn has_form(head: &RowHead, atom: &Atom) -> bool
-    ensures { IsTrue result ↔ ((head.now.relation ≡ atom.now.relation)
-        × (head.now.arity ≡ length atom.now.args)) }
-{
-    head.relation == atom.relation && head.arity == atom.args.len()
 }
 
 // Whether each cell of the row is what the atom's argument stands for.
@@ -265,47 +397,64 @@ fn row_for(chosen: &[usize], row: usize, atom: usize) -> usize
     }
 }
 
-// Adds the match of the rows, one for each atom, if it uses the one that is wanted.
-fn keep<F: FactSource, L: Ledger>(
+// Gives the match of the rows, one for each atom.
+fn give<F: FactSource, V: Visitor, L: Ledger>(
     alloc: Global,
     search: &Search<'_, F>,
-    chosen: &[usize],
+    walk: &mut Walk,
     span: Span,
-    found: &mut Vec<Match>,
+    visitor: &mut V,
     steps: &mut Steps<L>,
-) -> Result<(), Memory>
-    requires partial { IsPartial search.now chosen.now span }
-    requires whole { length chosen.now ≡ length search.now.body }
-    ensures { OnOk result
-        (Adds (IsListedFrom search.now chosen.now) found.old.items found.new.items) }
+) -> Result<bool, Memory>
+    requires partial { IsPartial search.now walk.old.chosen.items span }
+    requires whole { length walk.old.chosen.items ≡ length search.now.body }
+    ensures chosen { OnOk result (walk.new.chosen.items ≡ walk.old.chosen.items) }
+    ensures next { OnOk result (walk.new.next.items ≡ walk.old.next.items) }
+    ensures gives { IfOk result (Gives V.takes (IsListedFrom search.now walk.old.chosen.items)
+        visitor.old visitor.new) }
+    ensures stops { IfOk result (λ more. more ≡ false → V.stops visitor.new) }
 {
-    if !search.is_wanted(chosen) {
-        return Ok(());
-    }
-    let rows = Items::from_vec(chosen.to_vec(alloc)?);
-    let binding = binding_of(alloc, search, chosen, steps)?;
-    found.push(Match {
+    let places = search.places();
+    take_values(
+        search,
+        walk.chosen.as_slice(),
+        places,
+        &mut walk.values,
+        steps,
+    )?;
+    let rows = Items::from_vec(replace(&mut walk.chosen, Vec::new(alloc)));
+    let binding = Items::from_vec(replace(&mut walk.values, Vec::new(alloc)));
+    let found = Match {
         rows,
         binding,
         span,
-    })?;
-    Ok(())
+    };
+    let more = visitor.visit(&found)?;
+    let Match {
+        rows,
+        binding,
+        span: _,
+    } = found;
+    walk.chosen = rows.into_vec();
+    walk.values = binding.into_vec();
+    Ok(more)
 }
 
-// The values at the places of all variables.
-fn binding_of<F: FactSource, L: Ledger>(
-    alloc: Global,
+// Takes the values at places.
+fn take_values<F: FactSource, L: Ledger>(
     search: &Search<'_, F>,
     chosen: &[usize],
+    places: &[Place],
+    values: &mut Vec<Seen>,
     steps: &mut Steps<L>,
-) -> Result<Items<Seen>, Memory>
-    requires { All (λ place. IsSome (cell_in search.now chosen.now place)) search.now.places }
-    ensures { IfOk result (λ binding. map Some binding
-        ≡ map (cell_in search.now chosen.now) search.now.places) }
+) -> Result<(), Memory>
+    requires { All (λ place. IsSome (cell_in search.now chosen.now place)) places.now }
+    ensures { OnOk result (map Some values.new.items
+        ≡ map (cell_in search.now chosen.now) places.now) }
 {
-    let mut binding = Items::new(alloc);
-    for place in search.places() {
-        binding.push(search.cell(chosen[place.atom], place.column, steps))?;
+    values.clear();
+    for place in places {
+        values.push(search.cell(chosen[place.atom], place.column, steps))?;
     }
-    Ok(binding)
+    Ok(())
 }

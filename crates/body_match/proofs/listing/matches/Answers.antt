@@ -1,32 +1,33 @@
-use Rattle.std.proofs.Common.{◌↔◌, ℕ, List, Option, None, Contains}
-use Rattle.std.proofs.lemmas.Result.{IfOk-weaker}
-use Rattle.rule_core.specs.declared.rules.Atom.{Atom}
-use Rattle.fact_table.specs.Rows.{SeenRow}
-use Rattle.body_match.specs.declared.found.Match.{Match}
-use Rattle.body_match.specs.Matches.{IsMatch}
-use Rattle.body_match.specs.Search.{Lists, Use}
-use Rattle.body_match.specs.Snapshots.{AreMatchesAtInstants}
+use Rattle.std.proofs.Common.{None}
+use Rattle.body_match.specs.declared.listing.Listing.{Listing}
+use Rattle.body_match.proofs.ListingLemmas.{lists_all}
 use Rattle.body_match.proofs.SnapshotLemmas.{all_at_instants}
 use Rattle.body_match.proofs.listing.matches.Goals as goal
-
--- where no row is wanted, all matches are listed
-all_listed : (body : List Atom) (vars : ℕ) (rows : List (Option SeenRow)) (list : List Match)
-    → Lists (λ found. IsMatch body vars rows found × Use None found.rows) list
-    → (found : Match) → Contains list found ↔ IsMatch body vars rows found
-all_listed body vars rows list h m = (λ c. ((h.each m).0 c).0, λ p. (h.each m).1 (p, tt))
 
 pub returns-clause-each : goal.returns-clause-each
 returns-clause-each g c =
     let body = c.args.body.now in
     let rows = g.F.FactSource.rows c.args.source.now in
-    IfOk-weaker c.found_in.result (Lists (λ found. IsMatch body c.args.vars rows found × Use None found.rows))
-    (λ list. (found : Match) → Contains list found ↔ IsMatch body c.args.vars rows found)
-    (all_listed body c.args.vars rows) c.found_in.ensures
+    let old : Listing = record { alloc = c.args.alloc; row = None; list = c.new.result } in
+    let h = lists_all old c.visit_matches.new.visitor body c.args.vars rows c.in_ok-visit_matches.field-0 c.in_ok-visit_matches.ensures.stops
+    c.new.ensures.items c.in_ok-visit_matches.ensures.visits in
+    rw c.from_vec.ensures (λ m. (λ d. ((h.0 m).0 d).0, λ w. (h.0 m).1 (w, tt)))
+
+pub returns-clause-order : goal.returns-clause-order
+returns-clause-order g c =
+    let body = c.args.body.now in
+    let rows = g.F.FactSource.rows c.args.source.now in
+    let old : Listing = record { alloc = c.args.alloc; row = None; list = c.new.result } in
+    let h = lists_all old c.visit_matches.new.visitor body c.args.vars rows c.in_ok-visit_matches.field-0 c.in_ok-visit_matches.ensures.stops
+    c.new.ensures.items c.in_ok-visit_matches.ensures.visits in
+    rw c.from_vec.ensures h.1
 
 pub returns-clause-snapshots : goal.returns-clause-snapshots
 returns-clause-snapshots g c =
     let body = c.args.body.now in
     let rows = g.F.FactSource.rows c.args.source.now in
-    IfOk-weaker c.found_in.result (Lists (λ found. IsMatch body c.args.vars rows found × Use None found.rows))
-    (AreMatchesAtInstants body rows)
-    (λ list h. all_at_instants body c.args.vars rows c.requires.vars list (all_listed body c.args.vars rows list h)) c.found_in.ensures
+    let old : Listing = record { alloc = c.args.alloc; row = None; list = c.new.result } in
+    let h = lists_all old c.visit_matches.new.visitor body c.args.vars rows c.in_ok-visit_matches.field-0 c.in_ok-visit_matches.ensures.stops
+    c.new.ensures.items c.in_ok-visit_matches.ensures.visits in
+    rw c.from_vec.ensures (all_at_instants body c.args.vars rows c.requires.vars c.visit_matches.new.visitor.list.items
+    (λ m. (λ d. ((h.0 m).0 d).0, λ w. (h.0 m).1 (w, tt))))
