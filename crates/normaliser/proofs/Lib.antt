@@ -6,3 +6,4 @@ pub mod GroupLemmas
 pub mod SnapshotLemmas
 pub mod LawLemmas
 pub mod NormaliseLemmas
+mod NormalisedFacts

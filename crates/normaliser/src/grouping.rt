@@ -23,7 +23,7 @@ pub fn groups<L: Ledger>(
 ) -> Result<Items<usize>, Memory>
     ensures { IfOk result (AreLeastPlaces rules.now table.now) }
 {
-    rules.are_valid();
+    rules.is_kept();
     let mut union = Union::new(alloc, table.facts().len())?;
     for tgd in rules.tgds().as_slice() {
         unite_matches(alloc, tgd, table, &mut union, steps)?;

@@ -13,7 +13,7 @@ loop-tgd-init g c =
 
 pub unite_matches-requires-clause-vars : goal.unite_matches-requires-clause-vars
 unite_matches-requires-clause-vars g c =
-    (read_tgd c.args.rules.now c.are_valid.ensures c.as_slice-tgd-items.result.now c.loop-tgd.tgd-index c.tgd-item.result
+    (read_tgd c.args.rules.now c.is_kept.ensures c.as_slice-tgd-items.result.now c.loop-tgd.tgd-index c.tgd-item.result
     (c.as_slice-tgd-items.ensures ∙ c.tgds.ensures) c.loop-tgd-test.true c.tgd-item.is).body_vars.same
 
 pub loop-tgd-preserved : goal.loop-tgd-preserved
@@ -31,6 +31,6 @@ loop-tgd-preserved g c =
 pub returns : goal.returns
 returns g c =
     subst (AreLeastPlaces c.args.rules.now c.args.table.now) (sym c.into_labels.ensures)
-    (labels_all c.args.rules.now c.args.table.now c.are_valid.ensures c.loop-tgd.tgd-index c.loop-tgd.union
+    (labels_all c.args.rules.now c.args.table.now c.is_kept.ensures c.loop-tgd.tgd-index c.loop-tgd.union
     (subst (λ (l : List Tgd). length l ≤ c.loop-tgd.tgd-index) (c.as_slice-tgd-items.ensures ∙ c.tgds.ensures) c.loop-tgd-test.false)
     c.loop-tgd.invariant)
