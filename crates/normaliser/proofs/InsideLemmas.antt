@@ -7,15 +7,14 @@ use Rattle.std.proofs.lemmas.Cmp.{tied_itself}
 use lib.Signed.{≤ℤ_refl}
 use Rattle.time_line.specs.Span.{Ends, IsFrom, IsBefore, Has, AreApart, IsInside, AreParts, span_cmp}
 use Rattle.time_line.specs.SpanOrder.{span_cmp-total}
-use Rattle.body_match.proofs.EndsLemmas.{same_ends}
 use Rattle.normaliser.specs.Normalised.{IsEndOf}
-use Rattle.normaliser.specs.Ends.{is_up_to_start, is_before_stop}
+use Rattle.normaliser.specs.Cuts.{is_up_to_start, is_before_stop}
 
-IsFrom-later : (lo : Option ℤ) (s t : ℤ) → s ≤ℤ t → IsFrom lo s → IsFrom lo t
+pub IsFrom-later : (lo : Option ℤ) (s t : ℤ) → s ≤ℤ t → IsFrom lo s → IsFrom lo t
 IsFrom-later None s t h f = tt
 IsFrom-later (Some lo) s t h f = omega (arith, ints)
 
-IsBefore-earlier : (hi : Option ℤ) (s t : ℤ) → s ≤ℤ t → IsBefore hi t → IsBefore hi s
+pub IsBefore-earlier : (hi : Option ℤ) (s t : ℤ) → s ≤ℤ t → IsBefore hi t → IsBefore hi s
 IsBefore-earlier None s t h f = tt
 IsBefore-earlier (Some hi) s t h f = omega (arith, ints)
 
@@ -51,23 +50,6 @@ before_below (Some hi) a b l e = grind (arith, ints)
 -- what is inside a part is inside the whole
 pub inside_whole : (part whole : Ends) → ((t : ℤ) → Has part t → Has whole t) → (m : ℤ) → IsInside part m → IsInside whole m
 inside_whole part whole into m h = (into m h.0, into (m -ℤ pos 1) h.1)
-
--- the ends of the parts at an instant inside
-module _ (s before after : Ends) (m : ℤ) (inside : IsInside s m) (parts : AreParts s before after m) where
-  pub before_ends : before ≡ record { lo = s.lo; hi = Some m }
-  before_ends =
-      let last : (m -ℤ pos 1) <ℤ m = omega (arith, ints) in
-      same_ends before (record { lo = s.lo; hi = Some m }) (m -ℤ pos 1, (parts.first (m -ℤ pos 1)).1 (inside.1, last)) (λ t. (
-        λ h. let r = (parts.first t).0 h in (r.0.0, r.1),
-        λ h. (parts.first t).1 ((h.0, IsBefore-earlier s.hi t m (let l : t <ℤ m = h.1 in omega (arith, ints)) inside.0.1), h.1),
-      ))
-
-  pub after_ends : after ≡ record { lo = Some m; hi = s.hi }
-  after_ends =
-      same_ends after (record { lo = Some m; hi = s.hi }) (m, (parts.second m).1 (inside.0, ≤ℤ_refl m)) (λ t. (
-        λ h. let r = (parts.second t).0 h in (r.1, r.0.1),
-        λ h. (parts.second t).1 ((IsFrom-later s.lo m t h.0 inside.0.0, h.1), h.0),
-      ))
 
 -- an end in a span that starts before it is inside, and so is one behind an instant of a span that stops after it
 start_inside : (s : Ends) (t m : ℤ) → Has s t → m ≤ℤ t → IsFrom s.lo (m -ℤ pos 1) → IsInside s m
@@ -138,3 +120,43 @@ equal_or_apart a b agree = by_order (span_cmp a b) refl
     by_order Less e = inr (apart Less e (λ h. cc))
     by_order Greater e = inr (apart Greater e (λ h. cc))
     by_order Equal e = inl (search rules)
+
+-- an end isn't inside, and an end of a part is one of the whole or inside it
+pub end_is_outside : (s : Ends) (m : ℤ) → IsEndOf s m → ¬ (IsInside s m)
+end_is_outside s m (inl e) h = let from : m ≤ℤ (m -ℤ pos 1) = rw e at h.1.0 in omega (arith, ints, from)
+end_is_outside s m (inr e) h = let before : m <ℤ m = rw e at h.0.1 in omega (arith, ints, before)
+
+module _ (part whole : Ends) (t : ℤ) (at : Has part t) (into : (u : ℤ) → Has part u → Has whole u) (m : ℤ) where
+  start_or_inside : part.lo ≡ Some m → (lo : Option ℤ) → whole.lo ≡ lo → IsEndOf whole m ⊎ IsInside whole m
+  start_or_inside e lo f =
+      let early : m ≤ℤ t = rw e at at.0 in
+      let has : Has whole m = into m (rw e (≤ℤ_refl m), IsBefore-earlier part.hi m t early at.1) in
+      by_start lo f has
+    where
+      by_start : (lo : Option ℤ) → whole.lo ≡ lo → Has whole m → IsEndOf whole m ⊎ IsInside whole m
+      by_start None f has = inr (has, (rw f tt, IsBefore-earlier whole.hi (m -ℤ pos 1) m (omega (arith, ints)) has.1))
+      by_start (Some lo) f has =
+          let from : lo ≤ℤ m = rw f at has.0 in
+          by_lt_z lo m
+          (λ l. let h : lo ≤ℤ (m -ℤ pos 1) = omega (arith, ints, l) in
+          inr (has, (rw f h, IsBefore-earlier whole.hi (m -ℤ pos 1) m (omega (arith, ints)) has.1)))
+          (λ g. let same : lo ≡ m = omega (arith, ints, g, from) in inl (inl (f ∙ ap Some same)))
+
+  stop_or_inside : part.hi ≡ Some m → (hi : Option ℤ) → whole.hi ≡ hi → IsEndOf whole m ⊎ IsInside whole m
+  stop_or_inside e hi f =
+      let late : t <ℤ m = rw e at at.1 in
+      let last : (m -ℤ pos 1) <ℤ m = omega (arith, ints) in
+      let has : Has whole (m -ℤ pos 1) = into (m -ℤ pos 1) (IsFrom-later part.lo t (m -ℤ pos 1) (omega (arith, ints, late)) at.0, rw e last) in
+      by_stop hi f has
+    where
+      by_stop : (hi : Option ℤ) → whole.hi ≡ hi → Has whole (m -ℤ pos 1) → IsEndOf whole m ⊎ IsInside whole m
+      by_stop None f has = inr ((IsFrom-later whole.lo (m -ℤ pos 1) m (omega (arith, ints)) has.0, rw f tt), has)
+      by_stop (Some hi) f has =
+          let before : (m -ℤ pos 1) <ℤ hi = rw f at has.1 in
+          by_lt_z m hi
+          (λ (l : m <ℤ hi). inr ((IsFrom-later whole.lo (m -ℤ pos 1) m (omega (arith, ints)) has.0, rw f l), has))
+          (λ g. let same : hi ≡ m = omega (arith, ints, g, before) in inl (inr (f ∙ ap Some same)))
+
+  pub end_or_inside : IsEndOf part m → IsEndOf whole m ⊎ IsInside whole m
+  end_or_inside (inl e) = start_or_inside e whole.lo refl
+  end_or_inside (inr e) = stop_or_inside e whole.hi refl

@@ -1,6 +1,9 @@
-pub mod EndLemmas
+pub mod LabelLemmas
 pub mod InsideLemmas
 pub mod CutLemmas
-pub mod CellLemmas
+pub mod PieceLemmas
+pub mod GroupLemmas
 pub mod SnapshotLemmas
-pub mod NormalisedFacts
+pub mod LawLemmas
+pub mod NormaliseLemmas
+mod NormalisedFacts

@@ -12,8 +12,6 @@ use Rattle.fact_table.specs.Facts.{HasAt}
 use Rattle.fact_table.specs.Rows.{row_of, rows_of}
 use Rattle.fact_table.specs.Snapshots.{seen_term, fact_of, facts_of}
 use Rattle.fact_table.specs.Snapshots.{snapshot_of}
-use Rattle.normaliser.specs.Normalised.{HaveSameSnapshots}
-use Rattle.normaliser.specs.Cut.{IsCell, AreCut}
 
 -- a fact of a table is a fact with terms, and each such fact is one of the table
 in_facts : (facts : List Fact) (fact : Fact) → Contains facts fact → Contains (facts_of (rows_of facts)) (fact_of (row_of fact))
@@ -52,24 +50,3 @@ snapshot_moves a b t moves fact c =
     let same = same_row f.0 g.1 h.1 fact g.4.0 g.4.1 f.2 h.4.0 in
     subst (Contains (snapshot_of b t)) same
     (covered_in_snapshot (facts_of (rows_of b)) (fact_of (row_of g.1)).row t (d.0, fact_of (row_of g.1), d.1, d.2, (refl, g.4.2)))
-
-module _ (table : List Fact) (ends : List ℤ) (pieces made : List Fact) (cut : AreCut table ends pieces)
-    (same : (fact : Fact) → Contains made fact ↔ Contains pieces fact) where
-  to_made : (relation : ℕ) (row : List ConstId) (t : ℤ) → HasAt table relation row t → HasAt made relation row t
-  to_made relation row t h =
-      let p = cut.whole h.1 t (h.0, h.2, h.3) h.4.2 in
-      let c = (same p.1).1 (p.0, p.2, p.3) in
-      (c.0, p.1, c.1, c.2, (p.4.0 ∙ h.4.0, p.4.1 ∙ h.4.1, p.4.2))
-
-  to_table : (relation : ℕ) (row : List ConstId) (t : ℤ) → HasAt made relation row t → HasAt table relation row t
-  to_table relation row t h =
-      let cell = All-contains (IsCell table ends) pieces h.1 cut.each ((same h.1).0 (h.0, h.2, h.3)) in
-      let f = cell.piece in
-      (f.1.0, f.0, f.1.1, f.1.2, (sym f.2.relation ∙ h.4.0, sym f.2.row ∙ h.4.1, f.2.within t h.4.2))
-
-  -- the table of the pieces holds what the table does
-  pub same_snapshots : HaveSameSnapshots table made
-  same_snapshots t fact = (
-    snapshot_moves table made t (λ relation row. to_made relation row t) fact,
-    snapshot_moves made table t (λ relation row. to_table relation row t) fact,
-  )

@@ -1,3 +1,4 @@
 pub mod Normalised
-pub mod Ends
-pub mod Cut
+pub mod Labels
+pub mod Cuts
+pub mod Pieces

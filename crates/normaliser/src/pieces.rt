@@ -1,43 +1,52 @@
 //! Facts cut into pieces.
 
-ghost use Rattle.std.specs.Prelude.{◌≡◌, ◌⊎◌, [], ◌∷◌, ◌++◌, Some, IfOk, OnOk};
+ghost use Rattle.std.specs.Prelude.{◌≡◌, ◌⊎◌, [], ◌∷◌, ◌++◌, length, Some, IfOk, OnOk};
 ghost use Rattle.time_line.specs.Span.{IsWithinLimit};
-ghost use Rattle.normaliser.specs.Ends.{AreEnds, AreInOrder, AreWithinLimit};
-ghost use Rattle.normaliser.specs.Cut.{AreCut, AddsPieces, IsCutOff, IsNotCut, over};
+ghost use Rattle.normaliser.specs.Cuts.{AreCutsInOrder, AreWithinLimit, IsCutAt};
+ghost use Rattle.normaliser.specs.Pieces.{ArePieces, AddsPieces, IsCutOff, IsNotCut, over};
 
-use crate::ends::ends_inside;
+use crate::cuts::{Cut, cuts_inside};
 use fact_table::Fact;
 use std::alloc::Global;
 use term_core::{Items, Memory};
 use time_line::Span;
 
-/// The pieces of all facts, whose ends these are.
-pub fn pieces_of(alloc: Global, facts: &[Fact], ends: &[i64]) -> Result<Items<Fact>, Memory>
-    requires { AreEnds facts.now ends.now }
-    ensures { IfOk result (AreCut facts.now ends.now) }
+/// The pieces of all facts. For each the least place in its group is given, and the cuts of all groups.
+pub fn pieces_of(
+    alloc: Global,
+    facts: &[Fact],
+    places: &[usize],
+    cuts: &[Cut],
+) -> Result<Items<Fact>, Memory>
+    requires size { length places.now ≡ length facts.now }
+    requires order { AreCutsInOrder cuts.now }
+    requires limit { AreWithinLimit cuts.now }
+    ensures { IfOk result (ArePieces facts.now places.now cuts.now) }
 {
     let mut pieces = Items::new(alloc);
-    for fact in facts {
-        add_pieces(alloc, fact, ends, &mut pieces)?;
+    pieces.room(facts.len().saturating_add(cuts.len()))?;
+    for (place, fact) in facts.iter().enumerate() {
+        add_pieces(alloc, fact, places[place], cuts, &mut pieces)?;
     }
     Ok(pieces)
 }
 
-// Adds the pieces of a fact, which is cut at each end that is strictly inside its span.
+// Adds the pieces of a fact of a group, which is cut at each cut of the group that is strictly inside its span.
 fn add_pieces(
     alloc: Global,
     fact: &Fact,
-    ends: &[i64],
+    group: usize,
+    cuts: &[Cut],
     pieces: &mut Items<Fact>,
 ) -> Result<(), Memory>
-    requires order { AreInOrder ends.now }
-    requires limit { AreWithinLimit ends.now }
-    ensures { OnOk result (AddsPieces ends.now fact.now pieces.old pieces.new) }
+    requires order { AreCutsInOrder cuts.now }
+    requires limit { AreWithinLimit cuts.now }
+    ensures { OnOk result (AddsPieces (IsCutAt cuts.now group) fact.now pieces.old pieces.new) }
 {
-    let inside = ends_inside(ends, &fact.span);
+    let inside = cuts_inside(cuts, group, &fact.span);
     let mut rest = fact.span;
-    for end in inside {
-        rest = cut_off(alloc, fact, rest, *end, pieces)?;
+    for cut in inside {
+        rest = cut_off(alloc, fact, rest, cut.at, pieces)?;
     }
     add_piece(alloc, fact, rest, pieces)
 }

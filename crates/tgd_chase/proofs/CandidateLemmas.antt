@@ -32,7 +32,7 @@ use Rattle.body_match.proofs.SearchLemmas.{some_and, and_some, same_some}
 use Rattle.body_match.proofs.SnapshotLemmas.{facts_from_match}
 use Rattle.fact_table.specs.Snapshots.{snapshot_of}
 use Rattle.normaliser.specs.Normalised.{IsEndOf}
-use Rattle.tgd_chase.specs.Fired.{FiresOn, GivesConstants}
+use Rattle.failure_trace.specs.Firings.{FiresOn, GivesConstants}
 use Rattle.tgd_chase.specs.Candidates.{IsConstant, IsMadeFrom, IsCandidateOf, IsFoundAt, AreCandidatesOf, AddsCandidates, IsCandidate, AreCandidates}
 use Rattle.tgd_chase.specs.declared.candidates.Candidate.{Candidate}
 
@@ -142,19 +142,19 @@ module _ (table : List Fact) (place : ℕ) (tgd : Tgd) (occurring : (v : ℕ) �
     candidate_from_match whole = record {
       rule = made.rule;
       supports = record {
+        instant = subst HasInstant (sym made.span) whole.instant;
         size = sym (length-map given Const) ∙ ap length made.binding ∙ whole.values;
         frontier = made.frontier;
         matches = λ binding t gives has.
             facts_from_match tgd.body tgd.body_vars (rows_of table) occurring binding t found whole
             (subst (λ s. Has s t) made.span has) (agrees binding gives);
-        ends = λ m end. (
-          found,
-          whole,
-          cells_read found.binding given made.binding (frontier_of tgd) candidate.frontier made.frontier,
-          subst (λ s. IsEndOf s m) made.span end,
-        );
       };
-      instant = subst HasInstant (sym made.span) whole.instant;
+      ends = λ m end. (
+        found,
+        whole,
+        cells_read found.binding given made.binding (frontier_of tgd) candidate.frontier made.frontier,
+        subst (λ s. IsEndOf s m) made.span end,
+      );
     }
 
     -- where the match agrees with constants, these are the candidate's frontier values

@@ -1,6 +1,6 @@
 -- That candidates, merged, are the firings of a table.
 use Rattle.std.proofs.Common.{◌≡◌, ℕ, ℤ, ◌+◌, Some, false, List, length, get_or, map, refl, sym, ap, ◌∙◌, subst, All, Contains, IsPermutation, IsSorted}
-use Rattle.std.specs.Prelude.{slice_get}
+use Rattle.std.specs.Prelude.{slice_get, IsSomeAnd}
 use Rattle.std.specs.declared.cmp.Ordering.{Ordering}
 use Rattle.std.specs.declared.cmp.Ordering.TheVariants.{Less, Equal, Greater}
 use Rattle.std.specs.Ordering.{nat_cmp, is_lt, ordering_then}
@@ -17,10 +17,11 @@ use Rattle.rule_core.specs.Mapping.{RuleSet}
 use Rattle.rule_core.specs.Firing.{frontier_of, Fires}
 use Rattle.fact_table.specs.declared.fact.Fact.{Fact}
 use Rattle.body_match.proofs.SearchLemmas.{some_and, and_some, same_some}
-use Rattle.fact_table.specs.Snapshots.{snapshot_of}
+use Rattle.fact_table.specs.Snapshots.{stamped_facts, snapshot_of}
 use Rattle.failure_trace.specs.declared.firing.Firing.{Firing}
 use Rattle.failure_trace.specs.declared.firing.Support.{Support}
-use Rattle.tgd_chase.specs.Fired.{FiresOn, Supports, IsSupported, AreFirings}
+use Rattle.failure_trace.specs.Firings.{FiresOn, Supports, IsSupported, AreFirings}
+use Rattle.tgd_chase.specs.Fired.{HasMatchEnds, HaveMatchEnds}
 use Rattle.tgd_chase.specs.Candidates.{IsCandidateOf, IsFoundAt, IsCandidate, AreCandidates}
 use Rattle.tgd_chase.specs.Merging.{candidate_cmp, IsAlike, IsPart, IsMadeUp, AreMerged}
 use Rattle.tgd_chase.specs.declared.candidates.Candidate.{Candidate}
@@ -47,7 +48,7 @@ module _ (rules : RuleSet) (table : List Fact) where
 
   module _ (all : List Candidate) (whole : AreCandidates rules table all) where
     pub have_instants : HaveInstants all
-    have_instants = All-weaker (IsCandidate rules table) (λ c. HasInstant c.support.span) (λ c h. (tgd_of c h).2.instant) all whole.each
+    have_instants = All-weaker (IsCandidate rules table) (λ c. HasInstant c.support.span) (λ c h. (tgd_of c h).2.supports.instant) all whole.each
 
     candidate_is : (c : Candidate) → Contains all c → IsCandidate rules table c
     candidate_is c there = All-contains (IsCandidate rules table) all c whole.each there
@@ -73,49 +74,67 @@ module _ (rules : RuleSet) (table : List Fact) where
 
     module _ (firing : Firing) (made : IsMadeUp all firing) where
       -- a candidate with the firing's key is one of the firing's tgd
-      alike_supports : (tgd : Tgd) → slice_get rules.tgds firing.rule ≡ Some tgd → (c : Candidate) → Contains all c → IsAlike firing c
-          → Supports table tgd firing.frontier c.support
-      alike_supports tgd is c there alike =
+      alike_is : (tgd : Tgd) → slice_get rules.tgds firing.rule ≡ Some tgd → (c : Candidate) → Contains all c → IsAlike firing c
+          → Supports (stamped_facts table) tgd firing.frontier c.support × HasMatchEnds table tgd firing.frontier c.support.span
+      alike_is tgd is c there alike =
           let of = tgd_of c (candidate_is c there) in
           let one = same_some (slice_get rules.tgds firing.rule) of.0 tgd (ap (slice_get rules.tgds) alike.0 ∙ of.1) is in
-          subst (λ x. Supports table x firing.frontier c.support) one
-          (subst (λ values. Supports table of.0 values c.support) (sym alike.1) of.2.supports)
+          subst (λ x. Supports (stamped_facts table) x firing.frontier c.support × HasMatchEnds table x firing.frontier c.support.span) one
+          (subst (λ values. Supports (stamped_facts table) of.0 values c.support × HasMatchEnds table of.0 values c.support.span) (sym alike.1)
+          (of.2.supports, of.2.ends))
 
       part_supports : (tgd : Tgd) → slice_get rules.tgds firing.rule ≡ Some tgd → (s : Support) → IsPart all firing s
-          → Supports table tgd firing.frontier s
+          → Supports (stamped_facts table) tgd firing.frontier s
       part_supports tgd is s part =
-          let w = alike_supports tgd is part.whole part.there part.alike in
+          let w = (alike_is tgd is part.whole part.there part.alike).0 in
           record {
+            instant = part.instant;
             size = ap length part.binding ∙ w.size;
             frontier = ap (λ xs. map (λ v. slice_get xs v) (frontier_of tgd)) part.binding ∙ w.frontier;
             matches = λ binding t gives has. w.matches binding t
                 (λ v c e. gives v c (ap (λ xs. slice_get xs v) part.binding ∙ e)) (part.within t has);
-            ends = λ m e.
-                let from = part.ends m e in
-                (alike_supports tgd is from.0 from.1 from.2).ends m from.3;
           }
 
-      is_supported : IsSupported rules table firing
-      is_supported =
-          let first = made.first in
-          let of = tgd_of first.0 (candidate_is first.0 first.1) in
-          let is = ap (slice_get rules.tgds) first.2.0 ∙ of.1 in
-          record {
-            each = and_some (λ tgd. All (Supports table tgd firing.frontier) firing.supports) (slice_get rules.tgds firing.rule) of.0 is
-                (All-weaker (IsPart all firing) (Supports table of.0 firing.frontier) (part_supports of.0 is) firing.supports made.each);
-            order = made.order;
-            whole = made.whole;
-          }
+      part_ends : (tgd : Tgd) → slice_get rules.tgds firing.rule ≡ Some tgd → (s : Support) → IsPart all firing s
+          → HasMatchEnds table tgd firing.frontier s.span
+      part_ends tgd is s part m e =
+          let from = part.ends m e in
+          (alike_is tgd is from.0 from.1 from.2).1 m from.3
 
-    pub firings_from_merged : (firings : List Firing) → AreMerged all firings → AreFirings rules table firings
+      -- its tgd is there
+      own_tgd : (tgd : Tgd) × (slice_get rules.tgds firing.rule ≡ Some tgd)
+      own_tgd =
+          let of = tgd_of made.first.0 (candidate_is made.first.0 made.first.1) in
+          (of.0, ap (slice_get rules.tgds) made.first.2.0 ∙ of.1)
+
+      is_supported : IsSupported rules (stamped_facts table) firing
+      is_supported = record {
+        each = and_some (λ tgd. All (Supports (stamped_facts table) tgd firing.frontier) firing.supports) (slice_get rules.tgds firing.rule) own_tgd.0 own_tgd.1
+            (All-weaker (IsPart all firing) (Supports (stamped_facts table) own_tgd.0 firing.frontier) (part_supports own_tgd.0 own_tgd.1) firing.supports made.each);
+        order = made.order;
+        whole = made.whole;
+      }
+
+      has_ends : IsSomeAnd (slice_get rules.tgds firing.rule) (λ tgd. All (λ s. HasMatchEnds table tgd firing.frontier s.span) firing.supports)
+      has_ends =
+          and_some (λ tgd. All (λ s. HasMatchEnds table tgd firing.frontier s.span) firing.supports) (slice_get rules.tgds firing.rule) own_tgd.0 own_tgd.1
+          (All-weaker (IsPart all firing) (λ s. HasMatchEnds table own_tgd.0 firing.frontier s.span) (part_ends own_tgd.0 own_tgd.1) firing.supports made.each)
+
+    pub ends_from_merged : (firings : List Firing) → AreMerged all firings → HaveMatchEnds rules table firings
+    ends_from_merged firings merged = All-weaker (IsMadeUp all)
+        (λ firing. IsSomeAnd (slice_get rules.tgds firing.rule) (λ tgd. All (λ s. HasMatchEnds table tgd firing.frontier s.span) firing.supports))
+        has_ends firings merged.made
+
+    pub firings_from_merged : (firings : List Firing) → AreMerged all firings → AreFirings rules (stamped_facts table) firings
     firings_from_merged firings merged = record {
       exact = λ rule values t. (
         λ h. fires_from_found rule values t ((merged.same rule values t).0 h),
         λ fires. (merged.same rule values t).1 (whole.whole rule values t fires),
       );
+      instants = merged.instants;
       separate = merged.separate;
       ordered = merged.ordered;
-      supported = All-weaker (IsMadeUp all) (IsSupported rules table) is_supported firings merged.made;
+      supported = All-weaker (IsMadeUp all) (IsSupported rules (stamped_facts table)) is_supported firings merged.made;
     }
 
 -- ---- the order of candidates

@@ -25,7 +25,7 @@ use Rattle.coalescer.proofs.SweepLemmas.{Before, UpTo, Swept, swept_first, swept
 use Rattle.normaliser.specs.Normalised.{IsEndOf}
 use Rattle.failure_trace.specs.declared.firing.Firing.{Firing}
 use Rattle.failure_trace.specs.declared.firing.Support.{Support}
-use Rattle.tgd_chase.specs.Fired.{firing_cmp, AreSeparate, IsEarlier}
+use Rattle.failure_trace.specs.Firings.{firing_cmp, AreSeparate, IsEarlier}
 use Rattle.tgd_chase.specs.Merging.{candidate_cmp, IsAlike, firing_of, IsBehind, GoesOn, IsApart, Begins, Takes, IsEndFrom, IsPart, IsMadeUp, AreMerged}
 use Rattle.tgd_chase.specs.declared.candidates.Candidate.{Candidate}
 
@@ -153,21 +153,24 @@ module _ (all : List Candidate) where
     there = h.there;
     alike = (p ∙ h.alike.0, q ∙ h.alike.1);
     binding = h.binding;
+    instant = h.instant;
     within = h.within;
     ends = λ m e. end_from a b p q m (h.ends m e);
   }
 
   -- a candidate alone
-  begun : (next : Candidate) → Contains all next → IsMadeUp all (firing_of next)
-  begun next there =
+  begun : (next : Candidate) → Contains all next → HasInstant next.support.span → IsMadeUp all (firing_of next)
+  begun next there has =
       let own : (m : ℤ) → IsEndOf next.support.span m → IsEndFrom all (firing_of next) m = λ m e. (next, there, (refl, refl), e) in
       record {
         first = (next, there, (refl, refl));
+        instant = has;
         each = All-push (IsPart all (firing_of next)) [] next.support (All-nil (IsPart all (firing_of next))) (record {
           whole = next;
           there = there;
           alike = (refl, refl);
           binding = refl;
+          instant = has;
           within = λ t h. h;
           ends = own;
         });
@@ -196,6 +199,9 @@ module _ (all : List Candidate) where
     end_of_next : (m : ℤ) → IsEndOf next.support.span m → IsEndFrom all after m
     end_of_next m e = (next, there, next_alike, e)
 
+    longer : HasInstant after.span
+    longer = (made.instant.0, (on.join made.instant.0).1 (inl made.instant.1))
+
     parts_kept : All (IsPart all after) last.supports
     parts_kept = All-weaker (IsPart all last) (IsPart all after) (part_from last after on.rule on.frontier) last.supports made.each
 
@@ -221,6 +227,7 @@ module _ (all : List Candidate) where
         there = there;
         alike = next_alike;
         binding = refl;
+        instant = behind.instant;
         within = λ t h. ((behind.same t).0 h).0;
         ends = λ m e. ⊎_elim
             (λ (p : m ≡ behind.stop). end_kept m (made.stop m (behind.is ∙ ap Some (sym p))))
@@ -250,6 +257,7 @@ module _ (all : List Candidate) where
       made_with : IsMadeUp all after
       made_with = record {
         first = (made.first.0, made.first.1, (on.rule ∙ made.first.2.0, on.frontier ∙ made.first.2.1));
+        instant = longer;
         each = subst (All (IsPart all after)) (sym is) (All-push (IsPart all after) last.supports added parts_kept added_is_part);
         order = subst (AllPairs (λ (a b : Support). IsEarlier a.span b.span)) (sym is)
             (all_pairs_push (λ (a b : Support). IsEarlier a.span b.span) last.supports added made.order
@@ -269,6 +277,7 @@ module _ (all : List Candidate) where
       made_without : IsMadeUp all after
       made_without = record {
         first = (made.first.0, made.first.1, (on.rule ∙ made.first.2.0, on.frontier ∙ made.first.2.1));
+        instant = longer;
         each = subst (All (IsPart all after)) (sym is) parts_kept;
         order = subst (AllPairs (λ (a b : Support). IsEarlier a.span b.span)) (sym is) made.order;
         whole = λ t. subst (λ list. Has after.span t ↔ Any (HasAt t) list) (sym is) (
@@ -426,7 +435,7 @@ module _ (next : Candidate) (rest all : List Candidate) (has : HaveInstants all)
       → AreMergedSoFar (firings ++ firing_of next ∷ []) rest all
   begun_behind firings h apart = record {
     swept = by (last_cases firings);
-    made = All-push (IsMadeUp all) firings (firing_of next) h.made (begun all next (next_is firings h));
+    made = All-push (IsMadeUp all) firings (firing_of next) h.made (begun all next (next_is firings h) (next_has firings h));
     inside = λ c k. h.inside c (Contains-cons next c rest k);
   }
     where
@@ -470,6 +479,7 @@ merged_all firings all h =
         λ f. at_covered firing_entry firings rule values t
             ((covers (record { rule = rule; frontier = values }) t).1 (covered_at candidate_entry all rule values t f)),
       );
+      instants = All-weaker (IsMadeUp all) (λ firing. HasInstant firing.span) (λ firing made. made.instant) firings h.made;
       separate = AllPairs-weaker (λ (a b : Firing). AreSeparateEntries (firing_entry a) (firing_entry b)) AreSeparate
           (λ a b s rule frontier. s (λ i. record { rule = rule i; frontier = frontier i })) firings
           (AllPairs-from_map AreSeparateEntries firing_entry firings done.separate);

@@ -21,12 +21,13 @@ use Rattle.rule_core.proofs.ListLemmas.{Contains-head, Contains-cons, Contains-n
 use Rattle.rule_core.proofs.SnapshotLemmas.{snapshot_covers, covered_in_snapshot}
 use Rattle.body_match.proofs.SearchLemmas.{and_some}
 use Rattle.fact_table.specs.declared.fact.Fact.{Fact}
-use Rattle.fact_table.specs.Snapshots.{snapshot_of}
+use Rattle.fact_table.specs.Snapshots.{stamped_facts, snapshot_of}
 use Rattle.null_store.specs.Store.{Store, facts_in}
 use Rattle.null_store.specs.Changes.{IsFresh}
 use Rattle.failure_trace.specs.declared.firing.Firing.{Firing}
 use Rattle.failure_trace.specs.Entries.{entry_of, entries_of}
-use Rattle.tgd_chase.specs.Fired.{AreSeparate, AreFirings, HoldFiringFacts}
+use Rattle.failure_trace.specs.Firings.{AreSeparate, AreFirings}
+use Rattle.tgd_chase.specs.Fired.{HoldFiringFacts}
 use Rattle.tgd_chase.specs.Adding.{name_of}
 use Rattle.tgd_chase.proofs.AddingLemmas.{Row, IsNew}
 
@@ -170,7 +171,7 @@ module _ (rules : RuleSet) where
 
 -- ---- the firings of a table
 
-module _ (rules : RuleSet) (table : List Fact) (firings : List Firing) (are : AreFirings rules table firings) where
+module _ (rules : RuleSet) (table : List Fact) (firings : List Firing) (are : AreFirings rules (stamped_facts table) firings) where
   module _ (rows : List Row) (made : IsPermutation (rows_for rules firings) rows) (t : ℤ) (fact : FactOf ConstId) where
     abbrev source : List (FactOf ConstId)
     source = snapshot_of table t

@@ -1,6 +1,6 @@
 -- Matches of tgds' bodies, of which firings are made. No public clause cites this module.
 use Rattle.std.specs.Prelude.{◌≡◌, ℕ, ℤ, List, ◌++◌, Some, map, slice_get, All, Any, IsSomeAnd}
-use Rattle.time_line.specs.Span.{Has, HasInstant}
+use Rattle.time_line.specs.Span.{Has}
 use Rattle.term_core.specs.declared.const_id.ConstId.{ConstId}
 use Rattle.term_core.specs.declared.term.Seen.{Seen}
 use Rattle.term_core.specs.declared.term.Seen.TheVariants.{Const}
@@ -9,8 +9,9 @@ use Rattle.rule_core.specs.Mapping.{RuleSet}
 use Rattle.rule_core.specs.Firing.{Fires}
 use Rattle.fact_table.specs.declared.fact.Fact.{Fact}
 use Rattle.body_match.specs.declared.found.Match.{Match}
-use Rattle.fact_table.specs.Snapshots.{snapshot_of}
-use Rattle.tgd_chase.specs.Fired.{Supports, FiresOn}
+use Rattle.fact_table.specs.Snapshots.{stamped_facts, snapshot_of}
+use Rattle.failure_trace.specs.Firings.{Supports, FiresOn}
+use Rattle.tgd_chase.specs.Fired.{HasMatchEnds}
 use Rattle.tgd_chase.specs.declared.candidates.Candidate.{Candidate}
 
 -- the cell shows a constant
@@ -27,8 +28,8 @@ pub record IsMadeFrom (place : ℕ) (variables : List ℕ) (found : Match) (cand
 -- the candidate is a match of the body of the tgd at the place
 pub record IsCandidateOf (table : List Fact) (place : ℕ) (tgd : Tgd) (candidate : Candidate) : Type 0 where
   pub rule : candidate.rule ≡ place
-  pub supports : Supports table tgd candidate.frontier candidate.support
-  pub instant : HasInstant candidate.support.span
+  pub supports : Supports (stamped_facts table) tgd candidate.frontier candidate.support
+  pub ends : HasMatchEnds table tgd candidate.frontier candidate.support.span
 
 -- a candidate of the rule with these values has the instant
 abbrev pub IsFoundAt : List Candidate → ℕ → List ConstId → ℤ → Type 0

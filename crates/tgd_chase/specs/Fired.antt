@@ -1,47 +1,20 @@
--- The firings of a mapping's tgds on a table, each with matches that support it.
-use Rattle.std.specs.Prelude.{◌≡◌, ◌↔◌, ℕ, ℤ, ◌<ℤ◌, List, Some, map, length, slice_get, All, AllPairs, Any, Contains, IsSomeAnd}
-use Rattle.std.specs.declared.cmp.Ordering.{Ordering}
-use Rattle.std.specs.declared.cmp.Ordering.TheVariants.{Less}
-use Rattle.std.specs.Ordering.{nat_cmp, ordering_then}
-use Rattle.std.specs.Cmp.Lexicographic.{slice_cmp}
-use Rattle.time_line.specs.Span.{Ends, Has, Meet, Touch, span_cmp}
+-- What a mapping's tgds make of a table, beside the firings themselves.
+use Rattle.std.specs.Prelude.{◌≡◌, ◌↔◌, ℤ, List, Some, map, slice_get, All, Contains, IsSomeAnd}
+use Rattle.time_line.specs.Span.{Ends}
 use Rattle.term_core.specs.declared.const_id.ConstId.{ConstId}
 use Rattle.term_core.specs.declared.term.Seen.TheVariants.{Const}
-use Rattle.term_core.specs.Order.{id_cmp}
 use Rattle.rule_core.specs.declared.rules.Tgd.{Tgd}
-use Rattle.rule_core.specs.Terms.{TermOf, constant, FactOf, StampedOf}
+use Rattle.rule_core.specs.Terms.{constant, FactOf, StampedOf}
 use Rattle.rule_core.specs.Mapping.{RuleSet}
-use Rattle.rule_core.specs.Match.{Matches}
 use Rattle.rule_core.specs.Snapshot.{snapshot_at}
-use Rattle.rule_core.specs.Firing.{frontier_of, Fires, IsFiringFact}
+use Rattle.rule_core.specs.Firing.{frontier_of, IsFiringFact}
 use Rattle.fact_table.specs.declared.fact.Fact.{Fact}
 use Rattle.fact_table.specs.Rows.{rows_of}
+use Rattle.fact_table.specs.Snapshots.{snapshot_of}
 use Rattle.body_match.specs.declared.found.Match.{Match}
 use Rattle.body_match.specs.Matches.{IsMatch}
-use Rattle.fact_table.specs.Snapshots.{snapshot_of}
 use Rattle.normaliser.specs.Normalised.{IsEndOf}
 use Rattle.failure_trace.specs.declared.firing.Firing.{Firing}
-use Rattle.failure_trace.specs.declared.firing.Support.{Support}
-
--- the tgd with the place fires with these values on the instance; constants stand for themselves
-abbrev pub FiresOn : RuleSet → List (FactOf ConstId) → ℕ → List ConstId → Type 0
-FiresOn rules source rule values = IsSomeAnd (slice_get rules.tgds rule) (λ tgd. Fires (λ c. c) tgd source values)
-
--- a firing of the rule with these values has the instant
-abbrev pub IsFiredAt : List Firing → ℕ → List ConstId → ℤ → Type 0
-IsFiredAt firings rule values t = Any (λ f. (f.rule ≡ rule) × (f.frontier ≡ values) × Has f.span t) firings
-
--- the order of firings: by rule, then by frontier values, then by span
-abbrev pub firing_cmp : Firing → Firing → Ordering
-firing_cmp a b = ordering_then (nat_cmp a.rule b.rule) (ordering_then (slice_cmp id_cmp a.frontier b.frontier) (span_cmp a.span b.span))
-
--- firings of one rule and one list of frontier values neither meet nor touch
-abbrev pub AreSeparate : Firing → Firing → Type 0
-AreSeparate a b = a.rule ≡ b.rule → a.frontier ≡ b.frontier → ¬ (Meet a.span b.span) × ¬ (Touch a.span b.span)
-
--- the binding gives each variable the constant at its place
-abbrev pub GivesConstants : List ConstId → (ℕ → TermOf ConstId) → Type 0
-GivesConstants values binding = (v : ℕ) (c : ConstId) → slice_get values v ≡ Some c → binding v ≡ constant c
 
 -- the match gives the variables of the frontier these values
 abbrev pub GivesFrontier : Tgd → Match → List ConstId → Type 0
@@ -52,31 +25,14 @@ abbrev pub IsEndOfMatch : List Fact → Tgd → List ConstId → ℤ → Type 0
 IsEndOfMatch table tgd values m = (found : Match)
     × IsMatch tgd.body tgd.body_vars (rows_of table) found × GivesFrontier tgd found values × IsEndOf found.span m
 
--- a constant for each variable of the body, which matches the body at each instant of the span and gives the frontier its values; each
--- end of the span is one of a match that gives the frontier these values too
-pub record Supports (table : List Fact) (tgd : Tgd) (values : List ConstId) (support : Support) : Type 0 where
-  pub size : length support.binding ≡ tgd.body_vars
-  pub frontier : map (λ v. slice_get support.binding v) (frontier_of tgd) ≡ map (λ c. Some c) values
-  pub matches : (binding : ℕ → TermOf ConstId) (t : ℤ) → GivesConstants support.binding binding → Has support.span t
-      → Matches (λ c. c) binding tgd.body (snapshot_of table t)
-  pub ends : (m : ℤ) → IsEndOf support.span m → IsEndOfMatch table tgd values m
+-- the span starts and stops only where matches with these values do
+abbrev pub HasMatchEnds : List Fact → Tgd → List ConstId → Ends → Type 0
+HasMatchEnds table tgd values span = (m : ℤ) → IsEndOf span m → IsEndOfMatch table tgd values m
 
--- the one span ends before the other begins
-abbrev pub IsEarlier : Ends → Ends → Type 0
-IsEarlier a b = (s t : ℤ) → Has a s → Has b t → s <ℤ t
-
--- the firing's supports are matches of its tgd's body; their spans follow each other, and make up that of the firing
-pub record IsSupported (rules : RuleSet) (table : List Fact) (firing : Firing) : Type 0 where
-  pub each : IsSomeAnd (slice_get rules.tgds firing.rule) (λ tgd. All (Supports table tgd firing.frontier) firing.supports)
-  pub order : AllPairs (λ a b. IsEarlier a.span b.span) firing.supports
-  pub whole : (t : ℤ) → Has firing.span t ↔ Any (λ support. Has support.span t) firing.supports
-
--- exactly what fires on the table: a firing's span has an instant exactly where its tgd fires with its values on the snapshot there
-pub record AreFirings (rules : RuleSet) (table : List Fact) (firings : List Firing) : Type 0 where
-  pub exact : (rule : ℕ) (values : List ConstId) (t : ℤ) → IsFiredAt firings rule values t ↔ FiresOn rules (snapshot_of table t) rule values
-  pub separate : AllPairs AreSeparate firings
-  pub ordered : AllPairs (λ a b. firing_cmp a b ≡ Less) firings
-  pub supported : All (IsSupported rules table) firings
+-- supports start and stop only where matches with the firing's values do
+abbrev pub HaveMatchEnds : RuleSet → List Fact → List Firing → Type 0
+HaveMatchEnds rules table firings = All (λ firing. IsSomeAnd (slice_get rules.tgds firing.rule)
+    (λ tgd. All (λ support. HasMatchEnds table tgd firing.frontier support.span) firing.supports)) firings
 
 -- at every instant the rows hold exactly the firing facts of the table's snapshot
 abbrev pub HoldFiringFacts : RuleSet → List Fact → List (StampedOf (FactOf ConstId)) → Type 0

@@ -4,13 +4,13 @@ use Rattle.std.specs.declared.cmp.Ordering.{Ordering}
 use Rattle.std.specs.declared.cmp.Ordering.TheVariants.{Less}
 use Rattle.std.specs.Ordering.{nat_cmp, ordering_then}
 use Rattle.std.specs.Cmp.Lexicographic.{slice_cmp}
-use Rattle.time_line.specs.Span.{Ends, Has, IsBefore, AreApart, Touch, IsJoin, span_cmp}
+use Rattle.time_line.specs.Span.{Ends, Has, HasInstant, IsBefore, AreApart, Touch, IsJoin, span_cmp}
 use Rattle.term_core.specs.declared.const_id.ConstId.{ConstId}
 use Rattle.term_core.specs.Order.{id_cmp}
 use Rattle.normaliser.specs.Normalised.{IsEndOf}
 use Rattle.failure_trace.specs.declared.firing.Firing.{Firing}
 use Rattle.failure_trace.specs.declared.firing.Support.{Support}
-use Rattle.tgd_chase.specs.Fired.{IsFiredAt, firing_cmp, AreSeparate, IsEarlier}
+use Rattle.failure_trace.specs.Firings.{IsFiredAt, firing_cmp, AreSeparate, IsEarlier}
 use Rattle.tgd_chase.specs.Candidates.{IsFoundAt}
 use Rattle.tgd_chase.specs.declared.candidates.Candidate.{Candidate}
 
@@ -35,6 +35,7 @@ Begins next old new = new ≡ old ++ firing_of next ∷ []
 pub record IsBehind (done span part : Ends) : Type 0 where
   pub stop : ℤ
   pub is : done.hi ≡ Some stop
+  pub instant : HasInstant part
   pub same : (t : ℤ) → Has part t ↔ (Has span t × (stop ≤ℤ t))
   pub ends : (m : ℤ) → IsEndOf part m → (m ≡ stop) ⊎ IsEndOf span m
 
@@ -83,12 +84,14 @@ pub record IsPart (candidates : List Candidate) (firing : Firing) (support : Sup
   pub there : Contains candidates whole
   pub alike : IsAlike firing whole
   pub binding : support.binding ≡ whole.support.binding
+  pub instant : HasInstant support.span
   pub within : (t : ℤ) → Has support.span t → Has whole.support.span t
   pub ends : (m : ℤ) → IsEndOf support.span m → IsEndFrom candidates firing m
 
 -- stretches of such candidates, one after the other, make up the firing
 pub record IsMadeUp (candidates : List Candidate) (firing : Firing) : Type 0 where
   pub first : (candidate : Candidate) × Contains candidates candidate × IsAlike firing candidate
+  pub instant : HasInstant firing.span
   pub each : All (IsPart candidates firing) firing.supports
   pub order : AllPairs (λ a b. IsEarlier a.span b.span) firing.supports
   pub whole : (t : ℤ) → Has firing.span t ↔ Any (λ support. Has support.span t) firing.supports
@@ -97,6 +100,7 @@ pub record IsMadeUp (candidates : List Candidate) (firing : Firing) : Type 0 whe
 -- the firings have the time of the candidates, coalesced
 pub record AreMerged (candidates : List Candidate) (firings : List Firing) : Type 0 where
   pub same : (rule : ℕ) (values : List ConstId) (t : ℤ) → IsFiredAt firings rule values t ↔ IsFoundAt candidates rule values t
+  pub instants : All (λ firing. HasInstant firing.span) firings
   pub separate : AllPairs AreSeparate firings
   pub ordered : AllPairs (λ a b. firing_cmp a b ≡ Less) firings
   pub made : All (IsMadeUp candidates) firings

@@ -58,6 +58,7 @@ fn add_candidates<L: Ledger>(
 {
     let variables = frontier(alloc, tgd)?;
     let found = matches(alloc, &tgd.body, tgd.body_vars, table, steps)?;
+    list.reserve(found.len())?;
     for one in found.as_slice() {
         list.push(candidate_of(alloc, rule, variables.as_slice(), one)?)?;
     }
@@ -94,6 +95,7 @@ fn constants_of(alloc: Global, cells: &[Seen]) -> Result<Items<ConstId>, Memory>
     ensures { IfOk result (λ constants. map Seen.Const constants ≡ cells.now) }
 {
     let mut constants = Items::new(alloc);
+    constants.room(cells.len())?;
     for cell in cells {
         match cell {
             Seen::Const(constant) => constants.push(*constant)?,
@@ -114,6 +116,7 @@ fn values_of(
         map (λ v. slice_get binding.now v) variables.now ≡ map (λ c. Some c) values) }
 {
     let mut values = Items::new(alloc);
+    values.room(variables.len())?;
     for variable in variables {
         values.push(binding[*variable as usize])?;
     }

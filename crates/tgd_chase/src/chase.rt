@@ -3,11 +3,13 @@
 ghost use Rattle.std.specs.Prelude.{◌≡◌, ◌<◌, ◌≤◌, ◌^◌, IfOk, OnOk, IsPermutation, length, sum_by};
 ghost use Rattle.time_line.specs.Span.{HasInstant};
 ghost use Rattle.rule_core.specs.Firing.{firing_rows};
+ghost use Rattle.fact_table.specs.Snapshots.{stamped_facts};
 ghost use Rattle.normaliser.specs.Normalised.{IsEqualOrDisjoint};
 ghost use Rattle.null_store.specs.Store.{facts_in};
 ghost use Rattle.null_store.specs.Changes.{HoldsSame, HasRoom, IsFresh, head_cells, exists_count};
 ghost use Rattle.failure_trace.specs.Entries.{entries_of};
-ghost use Rattle.tgd_chase.specs.Fired.{AreFirings, HoldFiringFacts};
+ghost use Rattle.failure_trace.specs.Firings.{AreFirings};
+ghost use Rattle.tgd_chase.specs.Fired.{HaveMatchEnds, HoldFiringFacts};
 ghost use Rattle.tgd_chase.specs.Adding.{name_of, FitsRules, AddsRows};
 
 use crate::listing::list_firings;
@@ -36,7 +38,9 @@ pub fn fire<L: Ledger>(
     steps: &mut Steps<L>,
 ) -> Result<Fired, Memory>
     requires { IsEqualOrDisjoint rules.now table.now }
-    ensures firings { IfOk result (λ fired. AreFirings rules.now table.now fired.firings) }
+    ensures firings { IfOk result (λ fired.
+        AreFirings rules.now (stamped_facts table.now) fired.firings) }
+    ensures ends { IfOk result (λ fired. HaveMatchEnds rules.now table.now fired.firings) }
     ensures rows { IfOk result (λ fired.
         IsPermutation (firing_rows (λ c. c) rules.now (entries_of fired.firings)) (facts_in fired.store)) }
     ensures facts { IfOk result (λ fired. HoldFiringFacts rules.now table.now (facts_in fired.store)) }

@@ -1,8 +1,9 @@
 //! The firings of a mapping's tgds on a table, and the matches that support them.
 
 ghost use Rattle.std.specs.Prelude.{IfOk};
-ghost use Rattle.normaliser.specs.Normalised.{IsEqualOrDisjoint};
-ghost use Rattle.tgd_chase.specs.Fired.{AreFirings};
+ghost use Rattle.fact_table.specs.Snapshots.{stamped_facts};
+ghost use Rattle.failure_trace.specs.Firings.{AreFirings};
+ghost use Rattle.tgd_chase.specs.Fired.{HaveMatchEnds};
 
 use crate::candidates::find_candidates;
 use crate::merging::merge;
@@ -21,8 +22,8 @@ pub fn list_firings<L: Ledger>(
     table: &FactTable,
     steps: &mut Steps<L>,
 ) -> Result<Items<Firing>, Memory>
-    requires { IsEqualOrDisjoint rules.now table.now }
-    ensures { IfOk result (AreFirings rules.now table.now) }
+    ensures firings { IfOk result (AreFirings rules.now (stamped_facts table.now)) }
+    ensures ends { IfOk result (HaveMatchEnds rules.now table.now) }
 {
     let mut candidates = find_candidates(alloc, rules, table, steps)?;
     candidates.sort_unstable();

@@ -72,7 +72,7 @@ fn goes_on(last: &Firing, next: &Candidate) -> bool
         → AreApart last.now.span next.now.support.span
         × ¬ (Touch last.now.span next.now.support.span)) }
 {
-    are_alike(last, next) && adjoin(&last.span, &next.support.span)
+    are_alike(last, next) && last.span.adjoins(&next.support.span)
 }
 
 // Whether a firing and a candidate have one rule and one list of frontier values.
@@ -80,17 +80,6 @@ fn are_alike(firing: &Firing, candidate: &Candidate) -> bool
     ensures { IsTrue result ↔ IsAlike firing.now candidate.now }
 {
     firing.rule == candidate.rule && firing.frontier == candidate.frontier
-}
-
-// Whether two spans meet or touch.
-fn adjoin(a: &Span, b: &Span) -> bool
-    ensures yes { OnTrue result (Meet a.now b.now ⊎ Touch a.now b.now) }
-    ensures no { OnFalse result (AreApart a.now b.now × ¬ (Touch a.now b.now)) }
-{
-    match a.meet(b) {
-        Some(_) => true,
-        None => a.touches(b),
-    }
 }
 
 // Gives a firing the span of a further match too, which supports it where nothing did so far.

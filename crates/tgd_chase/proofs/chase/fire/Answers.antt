@@ -4,7 +4,8 @@ use Rattle.rule_core.specs.Firing.{firing_rows}
 use Rattle.null_store.specs.Store.{facts_in}
 use Rattle.failure_trace.specs.declared.firing.Firing.{Firing}
 use Rattle.failure_trace.specs.Entries.{entries_of}
-use Rattle.tgd_chase.specs.Fired.{AreFirings}
+use Rattle.fact_table.specs.Snapshots.{stamped_facts}
+use Rattle.failure_trace.specs.Firings.{AreFirings}
 use Rattle.tgd_chase.proofs.RowLemmas.{fresh, rows_more, hold_firing_facts}
 use Rattle.tgd_chase.proofs.chase.fire.Goals as goal
 use Rattle.tgd_chase.proofs.chase.fire.Goals.{After-loop-firing}
@@ -12,8 +13,8 @@ use Rattle.tgd_chase.proofs.chase.fire.Goals.{After-loop-firing}
 pub add_rows-requires-clause-fresh : goal.add_rows-requires-clause-fresh
 add_rows-requires-clause-fresh g c =
     let listed : List Firing = c.as_slice-firing-items.result.now in
-    let are : AreFirings c.args.rules.now c.args.table.now listed =
-    subst (AreFirings c.args.rules.now c.args.table.now) (sym c.as_slice-firing-items.ensures) c.in_ok-firings.ensures in
+    let are : AreFirings c.args.rules.now (stamped_facts c.args.table.now) listed =
+    subst (AreFirings c.args.rules.now (stamped_facts c.args.table.now)) (sym c.as_slice-firing-items.ensures) c.in_ok-firings.ensures.firings in
     fresh c.args.rules.now listed c.loop-firing.firing-index c.firing-item.result c.loop-firing.store are.separate c.loop-firing-test.true
     c.firing-item.is c.loop-firing.invariant
 
@@ -38,5 +39,5 @@ returns-clause-rows g c = all_rows g c
 
 pub returns-clause-facts : goal.returns-clause-facts
 returns-clause-facts g c =
-    hold_firing_facts c.args.rules.now c.args.table.now c.in_ok-firings.firings c.in_ok-firings.ensures (facts_in c.loop-firing.store)
+    hold_firing_facts c.args.rules.now c.args.table.now c.in_ok-firings.firings c.in_ok-firings.ensures.firings (facts_in c.loop-firing.store)
     (all_rows g c)

@@ -42,8 +42,8 @@ module _ (done span : Ends) (stop : ℤ) (lo hi : Option ℤ) (is : done.hi ≡ 
       start_is
   ends_of m (inr e) = inr (inr (sym end ∙ e))
 
-  is_behind : IsBehind done span part
-  is_behind = record { stop = stop; is = is; same = has_part; ends = ends_of }
+  is_behind : IsSpan part → IsBehind done span part
+  is_behind whole = record { stop = stop; is = is; instant = whole.instant; same = has_part; ends = ends_of }
 
   -- where there is no such span, there is no such instant
   none_behind : ¬ (IsSpan part) → IsSpan done → IsSpan span → (t : ℤ) → Has span t → IsBefore done.hi t
@@ -59,9 +59,9 @@ module _ (done span : Ends) (stop : ℤ) (lo hi : Option ℤ) (is : done.hi ≡ 
         stop = subst IsWithinLimit (sym end) whole.stop;
       })))
 
-on_some : (o : Option Ends) (e : Ends) (P : Ends → Type 0) → IfSome o (λ s. s ≡ e) → P e → IfSome o P
+on_some : (o : Option Ends) (e : Ends) (P : Ends → Type 0) → IfSome o (λ s. s ≡ e) → (IsSome o → P e) → IfSome o P
 on_some None e P h p = tt
-on_some (Some s) e P h p = subst P (sym h) p
+on_some (Some s) e P h p = subst P (sym h) (p refl)
 
 on_none : (o : Option Ends) (Q R : Type 0) → (Q → IsSome o) → (¬ Q → R) → IfNone o R
 on_none None Q R there f = f (λ q. absurd (false≢true (there q)))
@@ -79,7 +79,8 @@ stop_is c = sym c.hi.ensures.end ∙ c.in_ok-stop.was
 pub returns-clause-some : goal.returns-clause-some
 returns-clause-some c =
     on_some c.make.result (record { lo = c.max.result; hi = c.hi-2.result }) (IsBehind c.args.done.now c.args.span.now) c.make.ensures.made
-    (is_behind c.args.done.now c.args.span.now c.in_ok-stop.stop c.max.result c.hi-2.result (stop_is c) (start_asked c) c.hi-2.ensures.end)
+    (λ some. is_behind c.args.done.now c.args.span.now c.in_ok-stop.stop c.max.result c.hi-2.result (stop_is c) (start_asked c)
+    c.hi-2.ensures.end (c.make.ensures.none_only.0 some))
 
 pub returns-clause-none : goal.returns-clause-none
 returns-clause-none c =
