@@ -1,4 +1,5 @@
 pub mod TraceTests
 pub mod TraceOnce
+pub mod FrontLemmas
 mod TraceRows
 mod JournalRows

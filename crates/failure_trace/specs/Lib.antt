@@ -4,3 +4,4 @@ pub mod Equating
 pub mod Trace
 pub mod TraceRun
 pub mod JournalRun
+pub mod TraceText

@@ -4,13 +4,17 @@
 
 mod fault;
 mod firing;
+mod front;
 mod journal;
 pub mod laws;
+mod step_text;
 mod trace;
+mod trace_text;
 mod why;
 
 pub use fault::{TraceCode, TraceError, TraceFault};
 pub use firing::{Firing, Support};
 pub use journal::{CutNote, JournalStep};
 pub use trace::{Bound, StepKind, Trace, TraceStep, Value};
+pub use trace_text::read_trace;
 pub use why::Why;
