@@ -128,3 +128,11 @@ bound_front bytes after len n value e name is ends =
       is = is;
       ends = subst EndsPart (sym rest) ends;
     }
+
+-- words are as long as they can be
+pub word_once : (a b r s : List ℕ) → IsSpelled Name a r → IsSpelled Name b s → a ++ r ≡ b ++ s → a ≡ b
+word_once a b r s x y e = (spelled_once Name Name a b r s x y e).1
+
+-- so are texts in quotes
+pub quoted_once : (a b r s : List ℕ) → IsSpelled Quoted a r → IsSpelled Quoted b s → a ++ r ≡ b ++ s → a ≡ b
+quoted_once a b r s x y e = (spelled_once Quoted Quoted a b r s x y e).1

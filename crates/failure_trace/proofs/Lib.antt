@@ -1,5 +1,6 @@
 pub mod TraceTests
 pub mod TraceOnce
 pub mod FrontLemmas
+pub mod LineLemmas
 mod TraceRows
 mod JournalRows

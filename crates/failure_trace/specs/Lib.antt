@@ -5,3 +5,4 @@ pub mod Trace
 pub mod TraceRun
 pub mod JournalRun
 pub mod TraceText
+pub mod Printed

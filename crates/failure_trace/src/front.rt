@@ -3,14 +3,14 @@
 ghost use Rattle.std.specs.Prelude.{◌≡◌, ◌≢◌, ◌↔◌, ℕ, ◌+◌, ◌<◌, ◌≤◌, List, [], ◌∷◌, ◌++◌, length, take, drop, All, IsTrue, codes, IfOk, IfSome, IfNone};
 ghost use Rattle.rule_core.specs.Names.{IsName};
 ghost use Rattle.decl_text.specs.Quotes.{IsQuoted};
-ghost use Rattle.decl_text.specs.Tokens.{EndsWord};
+ghost use Rattle.decl_text.specs.Tokens.{EndsWord, IsSpelled};
 ghost use Rattle.failure_trace.specs.declared.trace.Value.{Value as ValueValue};
 ghost use Rattle.failure_trace.specs.declared.trace.Value.TheVariants as values;
 ghost use Rattle.failure_trace.specs.declared.trace.Bound.{Bound as BoundValue};
 ghost use Rattle.failure_trace.specs.TraceText.{EndsPart, IsValue, BeginsBound};
 
 use crate::{Bound, Value};
-use decl_text::{Kind, quoted, token_at};
+use decl_text::{Kind, Token, quoted, token_at};
 use std::alloc::Global;
 use std::str;
 use term_core::{Memory, Text};
@@ -41,14 +41,29 @@ pub(crate) fn name_len(bytes: &[u8]) -> Option<usize>
     ensures none { IfNone result ((name rest : List ℕ) → IsName name → EndsWord rest
         → bytes.now ≢ name ++ rest) }
 {
+    let Some(len) = front_len(bytes, Kind::Name) else {
+        return None;
+    };
+    if !may_be_name(&bytes[..len]) {
+        return None;
+    }
+    Some(len)
+}
+
+// How many bytes the token of this kind has with which the bytes begin, if they begin with one.
+fn front_len(bytes: &[u8], kind: Kind) -> Option<usize>
+    ensures front { IfSome result (λ len. IsSpelled kind (take len bytes.now) (drop len bytes.now)) }
+    ensures within { IfSome result (λ len. len ≤ length bytes.now) }
+    ensures none { IfNone result ((spelled rest : List ℕ) → IsSpelled kind spelled rest
+        → bytes.now ≢ spelled ++ rest) }
+{
     let Ok(token) = token_at(bytes, 0) else {
         return None;
     };
-    if token.kind == Kind::Name && may_be_name(&bytes[..token.end]) {
-        Some(token.end)
-    } else {
-        None
+    if token.kind != kind {
+        return None;
     }
+    Some(token.end)
 }
 
 // Whether a word is short, and no word of the format.
@@ -144,17 +159,22 @@ fn quoted_value(alloc: Global, bytes: &[u8]) -> Result<Option<ValueFront>, Memor
     ensures none { IfOk result (λ found. IfNone found ((text rest constant : List ℕ)
         → IsQuoted text constant → EndsPart rest → bytes.now ≢ text ++ rest)) }
 {
-    let Ok(token) = token_at(bytes, 0) else {
+    let Some(len) = front_len(bytes, Kind::Quoted) else {
         return Ok(None);
     };
-    if token.kind == Kind::Quoted && ends_part(&bytes[token.end..]) {
-        let text = quoted(alloc, bytes, &token)?;
-        return Ok(Some(ValueFront {
-            value: Value::Const(text),
-            len: token.end,
-        }));
+    if !ends_part(&bytes[len..]) {
+        return Ok(None);
     }
-    Ok(None)
+    let token = Token {
+        kind: Kind::Quoted,
+        start: 0,
+        end: len,
+    };
+    let text = quoted(alloc, bytes, &token)?;
+    Ok(Some(ValueFront {
+        value: Value::Const(text),
+        len,
+    }))
 }
 
 // The unknown with whose mark the bytes begin, if they begin with one that ends there.
@@ -166,7 +186,9 @@ fn mark_value(bytes: &[u8]) -> Option<ValueFront>
         → IsValue text (values.Null number) → EndsPart rest → bytes.now ≢ text ++ rest) }
 {
     let len = part_len(bytes);
-    let number = read_mark(&bytes[..len])?;
+    let Some(number) = read_mark(&bytes[..len]) else {
+        return None;
+    };
     Some(ValueFront {
         value: Value::Null(number),
         len,

@@ -1,6 +1,6 @@
 //! Traces as text: `trace 1`, then the instant, then a line for each step.
 
-ghost use Rattle.std.specs.Prelude.{◌≡◌, ◌≢◌, ◌⊎◌, ◌+◌, ℕ, ℤ, ◌<◌, ◌≤◌, List, [], ◌∷◌, ◌++◌, codes, length, take, drop, All, IfOk, IfSome, IfNone};
+ghost use Rattle.std.specs.Prelude.{◌≡◌, ◌≢◌, ◌⊎◌, ◌+◌, ℕ, ℤ, ◌<◌, ◌≤◌, List, [], ◌∷◌, ◌++◌, codes, length, take, drop, All, IsTrue, ◌↔◌, IfOk, IfSome, IfNone};
 ghost use Rattle.failure_trace.specs.declared.fault.TraceCode.TheVariants.{L1, L2, L3, L4, L5, L6};
 ghost use Rattle.failure_trace.specs.declared.trace.TraceStep.{TraceStep as StepValue};
 ghost use Rattle.failure_trace.specs.TraceText.{BeginsLine, BeginsTrace, BeginsInstant, Steps, IsStepLine, FailsStep, FailsSteps, IsTrace, Fails, IfFault};
@@ -30,8 +30,18 @@ pub fn read_trace(alloc: Global, bytes: &[u8]) -> Result<Trace, TraceError>
     ensures trace { IfOk result (λ trace. IsTrace bytes.now trace) }
     ensures fault { IfFault result (λ fault. Fails bytes.now fault) }
 {
-    let first = read_first(bytes)?;
-    let second = read_second(&bytes[first..])?;
+    let Some(first) = first_end(bytes) else {
+        return Err(TraceError::Fault(TraceFault {
+            code: TraceCode::L1,
+            line: 1,
+        }));
+    };
+    let Some(second) = instant_of(&bytes[first..]) else {
+        return Err(TraceError::Fault(TraceFault {
+            code: TraceCode::L2,
+            line: 2,
+        }));
+    };
     let steps = read_steps(alloc, &bytes[first + second.len..])?;
     Ok(Trace {
         instant: second.instant,
@@ -69,44 +79,41 @@ fn line_len(bytes: &[u8]) -> usize
 }
 
 // How many bytes the first line has, with its line feed.
-fn read_first(bytes: &[u8]) -> Result<usize, TraceError>
-    ensures line { IfOk result (λ end. BeginsTrace bytes.now (drop end bytes.now)) }
-    ensures within { IfOk result (λ end. end ≤ length bytes.now) }
-    ensures fault { IfFault result (λ fault. Fails bytes.now fault) }
+fn first_end(bytes: &[u8]) -> Option<usize>
+    ensures line { IfSome result (λ end. BeginsTrace bytes.now (drop end bytes.now)) }
+    ensures within { IfSome result (λ end. end ≤ length bytes.now) }
+    ensures none { IfNone result ((rest : List ℕ) → ¬ (BeginsTrace bytes.now rest)) }
 {
-    match line_of(bytes) {
-        Some(line) if &bytes[..line.len] == b"trace 1".as_slice() => Ok(line.end),
-        _ => Err(TraceError::Fault(TraceFault {
-            code: TraceCode::L1,
-            line: 1,
-        })),
+    let Some(line) = line_of(bytes) else {
+        return None;
+    };
+    if !is_first(&bytes[..line.len]) {
+        return None;
     }
+    Some(line.end)
 }
 
-// The instant of the line `instant T` with which the bytes begin, as a text's second line.
-fn read_second(bytes: &[u8]) -> Result<InstantFront, TraceError>
-    ensures line { IfOk result (λ second. BeginsInstant bytes.now second.instant (drop second.len bytes.now)) }
-    ensures within { IfOk result (λ second. second.len ≤ length bytes.now) }
-    ensures code { IfFault result (λ fault. fault ≡ record { code = L2; line = 2 }) }
-    ensures none { IfFault result (λ _. (t : ℤ) (rest : List ℕ) → ¬ (BeginsInstant bytes.now t rest)) }
+fn is_first(line: &[u8]) -> bool
+    ensures { IsTrue result ↔ (line.now ≡ codes "trace 1") }
 {
-    match instant_of(bytes) {
-        Some(second) => Ok(second),
-        None => Err(TraceError::Fault(TraceFault {
-            code: TraceCode::L2,
-            line: 2,
-        })),
-    }
+    line == b"trace 1".as_slice()
 }
 
+// The instant of the line `instant T` with which the bytes begin, if they begin with one.
 fn instant_of(bytes: &[u8]) -> Option<InstantFront>
     ensures line { IfSome result (λ second. BeginsInstant bytes.now second.instant (drop second.len bytes.now)) }
     ensures within { IfSome result (λ second. second.len ≤ length bytes.now) }
     ensures none { IfNone result ((t : ℤ) (rest : List ℕ) → ¬ (BeginsInstant bytes.now t rest)) }
 {
-    let line = line_of(bytes)?;
-    let number = after_word(&bytes[..line.len])?;
-    let instant = read_instant(number).ok()?;
+    let Some(line) = line_of(bytes) else {
+        return None;
+    };
+    let Some(number) = after_word(&bytes[..line.len]) else {
+        return None;
+    };
+    let Ok(instant) = read_instant(number) else {
+        return None;
+    };
     Some(InstantFront {
         instant,
         len: line.end,
