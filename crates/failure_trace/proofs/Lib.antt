@@ -2,5 +2,6 @@ pub mod TraceTests
 pub mod TraceOnce
 pub mod FrontLemmas
 pub mod LineLemmas
+pub mod TextOnce
 mod TraceRows
 mod JournalRows

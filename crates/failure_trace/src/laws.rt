@@ -7,6 +7,7 @@ ghost use Rattle.rule_core.specs.Terms.{FactOf, StampedOf};
 ghost use Rattle.rule_core.specs.Validity.{IsValid};
 ghost use Rattle.failure_trace.specs.declared.trace.Trace.{Trace as TraceValue};
 ghost use Rattle.failure_trace.specs.declared.why.Why.{Why as WhyValue};
+ghost use Rattle.failure_trace.specs.TraceText.{IsTrace};
 ghost use Rattle.failure_trace.specs.TraceRun.{IsAccepted, IsRefused};
 
 /// A trace is accepted, or it is refused by one part of the table at one step, and not both: so a checker has one
@@ -22,4 +23,9 @@ pub fn a_trace_is_accepted_or_has_one_first_failing_part()
     ensures apart { (name : ConstId → List ℕ) (rules : RuleSet) (source : List (StampedOf (FactOf (List ℕ))))
         → (trace : TraceValue) (step : ℕ) (why : WhyValue) → IsValid rules
         → IsAccepted name rules source trace → ¬ (IsRefused name rules source trace step why) }
+{}
+
+/// A text is one trace at most, so that reading it has one answer.
+pub fn a_text_is_one_trace()
+    ensures { (text : List ℕ) (a b : TraceValue) → IsTrace text a → IsTrace text b → a ≡ b }
 {}

@@ -4,7 +4,7 @@ ghost use Rattle.std.specs.Prelude.{◌≡◌, ◌++◌, ℕ, List, IfOk, OnOk};
 ghost use Rattle.std.specs.List.{flat_map};
 ghost use Rattle.failure_trace.specs.declared.trace.Value.TheVariants as values;
 ghost use Rattle.failure_trace.specs.TraceText.{kind_word};
-ghost use Rattle.failure_trace.specs.Printed.{value_text, bound_text, step_text, trace_text, IsWritable};
+ghost use Rattle.failure_trace.specs.Printed.{value_text, bound_text, step_text, trace_text};
 
 use crate::{Bound, StepKind, Trace, TraceStep, Value};
 use decl_text::print_quoted;
@@ -12,9 +12,8 @@ use itoa::Buffer;
 use std::alloc::Global;
 use term_core::{Memory, Text};
 
-/// The text of a trace that may be written. Reading it gives an equal trace.
+/// The text of a trace: its steps a line each, each line with its line feed.
 pub fn print_trace(alloc: Global, trace: &Trace) -> Result<Text, Memory>
-    requires { IsWritable trace.now }
     ensures { IfOk result (λ text. text ≡ trace_text trace.now) }
 {
     let mut text = Text::from_str(alloc, "trace 1")?;

@@ -23,9 +23,8 @@ returns-then-not-ends_part-clause-none c text rest constant is ends e =
 pub quoted-requires-clause-read : goal.quoted-requires-clause-read
 quoted-requires-clause-read c =
     let len : ℕ = c.in-Some.len in
-    let bytes : List ℕ = c.args.bytes.now in
-    (
+    let bytes : List ℕ = c.args.bytes.now in (
       0,
       subst (λ n. IsNextToken bytes 0 (record { kind = Quoted; start = 0; end = n })) (length-take-le len bytes c.in-Some.ensures.within)
-      (front_token bytes (take len bytes) (drop len bytes) Quoted c.in-Some.ensures.front (sym (take-append-drop len bytes))),
+          (front_token bytes (take len bytes) (drop len bytes) Quoted c.in-Some.ensures.front (sym (take-append-drop len bytes))),
     )

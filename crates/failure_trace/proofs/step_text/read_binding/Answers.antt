@@ -7,8 +7,7 @@ pub returns-then-len-ge-MOST_BOUND-clause-fault : goal.returns-then-len-ge-MOST_
 returns-then-len-ge-MOST_BOUND-clause-fault c =
     let rest : List ℕ = c.loop-rest.rest.now in
     let space = space_first rest c.loop-rest.invariant.ends c.in-len1-up.len_at_least in
-    let most = c.loop-rest.invariant.most in
-    (
+    let most = c.loop-rest.invariant.most in (
       c.loop-rest.binding,
       drop 1 rest,
       bound_so_far c.args.bytes.now rest c.loop-rest.binding (32 ∷ drop 1 rest) c.loop-rest.invariant.leads (sym space),
@@ -19,8 +18,7 @@ pub returns-in_default-2-clause-fault : goal.returns-in_default-2-clause-fault
 returns-in_default-2-clause-fault c =
     let rest : List ℕ = c.loop-rest.rest.now in
     let space = space_first rest c.loop-rest.invariant.ends c.in-len1-up.len_at_least in
-    let none = simp take_rest at (rw c.in_default-2.is at c.in_ok-front.ensures.none) in
-    (
+    let none = simp take_rest at (rw c.in_default-2.is at c.in_ok-front.ensures.none) in (
       c.loop-rest.binding,
       drop 1 rest,
       bound_so_far c.args.bytes.now rest c.loop-rest.binding (32 ∷ drop 1 rest) c.loop-rest.invariant.leads (sym space),
