@@ -34,7 +34,7 @@ value_once a b r s (Null m) (Null n) x y p q e =
     let digits : x.0.0 ≡ y.0.0 = cc (sym x.0.1 ∙ same.0 ∙ y.0.1) in
     (ap Null (sym x.0.3 ∙ ap value_of digits ∙ y.0.3), same.1)
 
-bound_once : (bytes : List ℕ) (b c : Bound) (r s : List ℕ) → BeginsBound bytes b r → BeginsBound bytes c s → (b ≡ c) × (r ≡ s)
+pub bound_once : (bytes : List ℕ) (b c : Bound) (r s : List ℕ) → BeginsBound bytes b r → BeginsBound bytes c s → (b ≡ c) × (r ≡ s)
 bound_once bytes b c r s x y =
     let names = name_once b.name c.name (61 ∷ (x.value ++ r)) (61 ∷ (y.value ++ s)) x.name y.name
     (equals_ends_word (x.value ++ r)) (equals_ends_word (y.value ++ s)) (sym x.bytes_are ∙ y.bytes_are) in
@@ -56,7 +56,7 @@ bind_once bytes (b ∷ bs) (c ∷ cs) x y =
 first_byte : (a b : ℕ) → a ≡ b → a ≢ b → ⊥
 first_byte a b e n = n e
 
-kind_once : (k l : StepKind) (r s : List ℕ) → kind_word k ++ r ≡ kind_word l ++ s → (k ≡ l) × (r ≡ s)
+pub kind_once : (k l : StepKind) (r s : List ℕ) → kind_word k ++ r ≡ kind_word l ++ s → (k ≡ l) × (r ≡ s)
 kind_once Tgd Tgd r s e = (refl, same_after (kind_word Tgd) (kind_word Tgd) r s refl e)
 kind_once Tgd Egd r s e = absurd (first_byte 116 101 (ap (λ x. get_or x 0 0) e) (λ h. omega (arith, h)))
 kind_once Tgd Clash r s e = absurd (first_byte 116 99 (ap (λ x. get_or x 0 0) e) (λ h. omega (arith, h)))
@@ -67,7 +67,7 @@ kind_once Clash Tgd r s e = absurd (first_byte 99 116 (ap (λ x. get_or x 0 0) e
 kind_once Clash Egd r s e = absurd (first_byte 99 101 (ap (λ x. get_or x 0 0) e) (λ h. omega (arith, h)))
 kind_once Clash Clash r s e = (refl, same_after (kind_word Clash) (kind_word Clash) r s refl e)
 
-step_line_once : (line : List ℕ) (a b : TraceStep) → IsStepLine line a → IsStepLine line b → a ≡ b
+pub step_line_once : (line : List ℕ) (a b : TraceStep) → IsStepLine line a → IsStepLine line b → a ≡ b
 step_line_once line a b x y =
     let kinds = kind_once a.kind b.kind x.begins.from y.begins.from (sym x.begins.word ∙ y.begins.word) in
     let p = x.begins.name in
