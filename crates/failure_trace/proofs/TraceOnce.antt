@@ -1,6 +1,6 @@
 -- The tests of a step come to one outcome, where no two rules of a kind have one name.
-use Rattle.std.proofs.Common.{◌≡◌, ◌≢◌, ◌⊎◌, ℕ, ◌+◌, Option, Some, None, List, [], ◌∷◌, refl, sym, ap, ◌∙◌, subst, inl, inr, All, AllPairs, Contains, MatchOption}
-use Rattle.std.proofs.lemmas.List.Elements.{All-contains}
+use Rattle.std.proofs.Common.{◌≡◌, ◌≢◌, ◌⊎◌, ℕ, ◌+◌, Option, Some, None, List, [], ◌∷◌, ◌++◌, map, refl, sym, ap, ◌∙◌, subst, inl, inr, All, AllPairs, Contains, MatchOption}
+use Rattle.std.proofs.lemmas.List.Elements.{All-contains, Contains-append_left}
 use Rattle.term_core.specs.declared.const_id.ConstId.{ConstId}
 use Rattle.rule_core.specs.declared.rules.Tgd.{Tgd}
 use Rattle.rule_core.specs.declared.rules.Egd.{Egd}
@@ -8,7 +8,7 @@ use Rattle.rule_core.specs.Terms.{TermOf, FactOf}
 use Rattle.rule_core.specs.Mapping.{RuleSet}
 use Rattle.rule_core.specs.Match.{Matches}
 use Rattle.rule_core.specs.Validity.{AreRules}
-use Rattle.rule_core.proofs.ListLemmas.{AllPairs-members}
+use Rattle.rule_core.proofs.ListLemmas.{AllPairs-members, AllPairs-nil, AllPairs-cons, AllPairs-head, AllPairs-tail, AllPairs-from_map}
 use Rattle.failure_trace.specs.declared.trace.StepKind.{StepKind}
 use Rattle.failure_trace.specs.declared.trace.StepKind.TheVariants.{Tgd as TgdStep, Egd as EgdStep, Clash as ClashStep}
 use Rattle.failure_trace.specs.declared.trace.TraceStep.{TraceStep}
@@ -17,6 +17,26 @@ use Rattle.failure_trace.specs.declared.why.Why.TheVariants.{K1, K2, K3, K4, K5,
 use Rattle.failure_trace.specs.Equating.{Replacement, bound_to, AreClashing, replacement_of}
 use Rattle.failure_trace.specs.Trace.{terms_in}
 use Rattle.failure_trace.specs.TraceRun.{Instance, Stage, going, clashed, Outcome, goes, stops, Test, Named, FitsTgd, FitsEgd, given_numbers, AreNew, left_side, right_side, text_cmp, EquatesSides, step_tests, kind_tests, Pass, FailsFrom}
+
+-- what elements of a list are to each other, those of its first part are, and those of its second
+AllPairs-first : {X : Type 0} (R : X → X → Type 0) (xs ys : List X) → AllPairs R (xs ++ ys) → AllPairs R xs
+AllPairs-first R [] ys pairs = AllPairs-nil R
+AllPairs-first R (x ∷ xs) ys pairs =
+    AllPairs-cons R x xs (λ y c. AllPairs-head R x (xs ++ ys) pairs y (Contains-append_left xs ys y c))
+    (AllPairs-first R xs ys (AllPairs-tail R x (xs ++ ys) pairs))
+
+AllPairs-second : {X : Type 0} (R : X → X → Type 0) (xs ys : List X) → AllPairs R (xs ++ ys) → AllPairs R ys
+AllPairs-second R [] ys pairs = pairs
+AllPairs-second R (x ∷ xs) ys pairs = AllPairs-second R xs ys (AllPairs-tail R x (xs ++ ys) pairs)
+
+-- no two tgds have one name, and no two egds
+tgd_names : (rules : RuleSet) → AreRules rules → AllPairs (λ a b. a.name ≢ b.name) rules.tgds
+tgd_names rules valid = AllPairs-from_map (λ a b. a ≢ b) (λ (t : Tgd). t.name) rules.tgds
+    (AllPairs-first (λ a b. a ≢ b) (map (λ (t : Tgd). t.name) rules.tgds) (map (λ (e : Egd). e.name) rules.egds) valid.names)
+
+egd_names : (rules : RuleSet) → AreRules rules → AllPairs (λ a b. a.name ≢ b.name) rules.egds
+egd_names rules valid = AllPairs-from_map (λ a b. a ≢ b) (λ (e : Egd). e.name) rules.egds
+    (AllPairs-second (λ a b. a ≢ b) (map (λ (t : Tgd). t.name) rules.tgds) (map (λ (e : Egd). e.name) rules.egds) valid.names)
 
 -- the tests come to one outcome at most
 abbrev Once : (Outcome → Type 0) → Type 0
@@ -51,15 +71,15 @@ one_value value a b x y = x ∙ sym y
 
 module _ (name : ConstId → List ℕ) (rules : RuleSet) (source : List (FactOf (List ℕ))) (valid : AreRules rules) where
   kind_once : (kind : StepKind) (held : Instance) (step : TraceStep) → Once (kind_tests name rules source kind held step)
-  kind_once TgdStep held step = Named-once (λ tgd. tgd.name) rules.tgds step.rule _ valid.tgd_names (λ tgd.
+  kind_once TgdStep held step = Named-once (λ tgd. tgd.name) rules.tgds step.rule _ (tgd_names rules valid) (λ tgd.
       Test-once (FitsTgd tgd step.binding) K2 _ (λ _.
       Test-once (Matches name (bound_to (terms_in step.binding)) tgd.body source) K3 _ (λ _.
       Test-once (AreNew held.used (given_numbers tgd step.binding)) K4 _ (λ _. one_value _))))
-  kind_once EgdStep held step = Named-once (λ egd. egd.name) rules.egds step.rule _ valid.egd_names (λ egd.
+  kind_once EgdStep held step = Named-once (λ egd. egd.name) rules.egds step.rule _ (egd_names rules valid) (λ egd.
       Test-once (FitsEgd egd step.binding) K2 _ (λ _.
       Test-once (Matches name (bound_to (terms_in step.binding)) egd.body held.facts) K3 _ (λ _.
       Match-once (replacement_of text_cmp (left_side egd step.binding) (right_side egd step.binding)) _ _)))
-  kind_once ClashStep held step = Named-once (λ egd. egd.name) rules.egds step.rule _ valid.egd_names (λ egd.
+  kind_once ClashStep held step = Named-once (λ egd. egd.name) rules.egds step.rule _ (egd_names rules valid) (λ egd.
       Test-once (FitsEgd egd step.binding) K2 _ (λ _.
       Test-once (Matches name (bound_to (terms_in step.binding)) egd.body held.facts) K3 _ (λ _.
       Test-once (AreClashing (left_side egd step.binding) (right_side egd step.binding)) K6 _ (λ _. one_value _))))

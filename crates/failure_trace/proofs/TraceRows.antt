@@ -32,21 +32,30 @@ salaries = record {
   sources = relation (codes "E") (codes "name" ∷ codes "company" ∷ []) ∷ relation (codes "S") (codes "name" ∷ codes "salary" ∷ []) ∷ [];
   targets = relation (codes "Emp") (codes "name" ∷ codes "company" ∷ codes "salary" ∷ []) ∷ [];
   tgds =
-    record {
-      name = codes "d1"; vars = codes "n" ∷ codes "c" ∷ codes "s" ∷ []; body_vars = 2;
-      body = atom 0 (0 ∷ 1 ∷ []) ∷ []; head = atom 0 (0 ∷ 1 ∷ 2 ∷ []) ∷ [];
-    }
-    ∷ record {
-      name = codes "d2"; vars = codes "n" ∷ codes "c" ∷ codes "s" ∷ []; body_vars = 3;
-      body = atom 0 (0 ∷ 1 ∷ []) ∷ atom 1 (0 ∷ 2 ∷ []) ∷ []; head = atom 0 (0 ∷ 1 ∷ 2 ∷ []) ∷ [];
-    }
-    ∷ [];
+      record {
+        name = codes "d1";
+        vars = codes "n" ∷ codes "c" ∷ codes "s" ∷ [];
+        body_vars = 2;
+        body = atom 0 (0 ∷ 1 ∷ []) ∷ [];
+        head = atom 0 (0 ∷ 1 ∷ 2 ∷ []) ∷ [];
+      }
+      ∷ record {
+        name = codes "d2";
+        vars = codes "n" ∷ codes "c" ∷ codes "s" ∷ [];
+        body_vars = 3;
+        body = atom 0 (0 ∷ 1 ∷ []) ∷ atom 1 (0 ∷ 2 ∷ []) ∷ [];
+        head = atom 0 (0 ∷ 1 ∷ 2 ∷ []) ∷ [];
+      }
+      ∷ [];
   egds =
-    record {
-      name = codes "e1"; vars = codes "n" ∷ codes "c" ∷ codes "s" ∷ codes "r" ∷ [];
-      body = atom 0 (0 ∷ 1 ∷ 2 ∷ []) ∷ atom 0 (0 ∷ 1 ∷ 3 ∷ []) ∷ []; left = 2; right = 3;
-    }
-    ∷ [];
+      record {
+        name = codes "e1";
+        vars = codes "n" ∷ codes "c" ∷ codes "s" ∷ codes "r" ∷ [];
+        body = atom 0 (0 ∷ 1 ∷ 2 ∷ []) ∷ atom 0 (0 ∷ 1 ∷ 3 ∷ []) ∷ [];
+        left = 2;
+        right = 3;
+      }
+      ∷ [];
   queries = [];
 }
 

@@ -144,8 +144,7 @@ Decides-are_distinct : (ns : List ℕ) → Decides (are_distinct ns) (AllPairs (
 Decides-are_distinct [] = (λ _. AllPairs-nil (λ a b. a ≢ b), λ _. refl)
 Decides-are_distinct (n ∷ ns) =
     let first = Decides-every (λ m. not (n == m)) (λ m. n ≢ m) (λ m. Decides-not (n == m) (Decides-eqb n m)) ns in
-    let both = Decides-and (list_all (λ m. not (n == m)) ns) (are_distinct ns) first (Decides-are_distinct ns) in
-    (
+    let both = Decides-and (list_all (λ m. not (n == m)) ns) (are_distinct ns) first (Decides-are_distinct ns) in (
       λ e. let h = both.0 e in AllPairs-cons (λ a b. a ≢ b) n ns (λ m c. subst (λ x. n ≢ x) c.2 (h.0 c.0 m c.1)) h.1,
       λ pairs. both.1 (λ k d l. AllPairs-head (λ a b. a ≢ b) n ns pairs (get_or ns k d) (Contains-get_or ns k d l), AllPairs-tail (λ a b. a ≢ b) n ns pairs),
     )
@@ -282,9 +281,9 @@ module _ (name : ConstId → List ℕ) (rules : RuleSet) (source : List (FactOf 
   egd_named : (held : Instance) (step : TraceStep) (Further : Egd → Outcome → Type 0) (further : Egd → Outcome)
       → ((egd : Egd) → Further egd (further egd))
       → Named (λ egd. egd.name) rules.egds step.rule (λ egd. Test (FitsEgd egd step.binding) K2
-        (Test (Matches name (bound_to (terms_in step.binding)) egd.body held.facts) K3 (Further egd)))
-        (named (rule_named (λ egd. egd.name) rules.egds step.rule) (λ egd. tested (names_eq (names_in step.binding) egd.vars) K2
-        (tested (matches name (bound_to (terms_in step.binding)) egd.body held.facts) K3 (further egd))))
+      (Test (Matches name (bound_to (terms_in step.binding)) egd.body held.facts) K3 (Further egd)))
+      (named (rule_named (λ egd. egd.name) rules.egds step.rule) (λ egd. tested (names_eq (names_in step.binding) egd.vars) K2
+      (tested (matches name (bound_to (terms_in step.binding)) egd.body held.facts) K3 (further egd))))
   egd_named held step Further further each =
       let binding : ℕ → TermOf (List ℕ) = bound_to (terms_in step.binding) in
       let Matched : Egd → Outcome → Type 0 = λ egd. Test (Matches name binding egd.body held.facts) K3 (Further egd) in

@@ -4,3 +4,5 @@ pub mod Equating
 pub mod Trace
 pub mod TraceRun
 pub mod JournalRun
+pub mod TraceText
+pub mod Printed

@@ -4,13 +4,19 @@
 
 mod fault;
 mod firing;
+mod front;
 mod journal;
 pub mod laws;
+mod printing;
+mod step_text;
 mod trace;
+mod trace_text;
 mod why;
 
 pub use fault::{TraceCode, TraceError, TraceFault};
 pub use firing::{Firing, Support};
 pub use journal::{CutNote, JournalStep};
+pub use printing::print_trace;
 pub use trace::{Bound, StepKind, Trace, TraceStep, Value};
+pub use trace_text::read_trace;
 pub use why::Why;
