@@ -10,10 +10,7 @@ use Rattle.rule_core.specs.Coalesced.{Covers}
 use Rattle.rule_core.specs.Renaming.{renamed_term, renamed_fact, renamed_facts, HoldTheSame}
 use Rattle.rule_core.proofs.ListLemmas.{Contains-nil, Contains-head, Contains-cons, Contains-from_map}
 use Rattle.fact_table.specs.declared.fact.Fact.{Fact}
-use Rattle.fact_table.specs.Rows.{rows_of}
-use Rattle.fact_table.specs.Snapshots.{with_terms}
-use Rattle.body_match.specs.Snapshots as shown
-use Rattle.fact_table.specs.Snapshots.{snapshot_of}
+use Rattle.fact_table.specs.Snapshots.{snapshot_of, stamped_facts, with_terms}
 use Rattle.exchange_engine.specs.Loading.{RawTable, text_in, as_text, AreFactsOf}
 
 -- ---- snapshots
@@ -79,7 +76,7 @@ module _ (to : ConstId → List ℕ) (pool : List (List ℕ)) (texts : (c : Cons
 
   -- the named facts of a loaded source hold at each instant what its tables hold
   pub source_holds_the_same : HoldWhatIsCovered → (tables : List RawTable) (table : List Fact)
-      → shown.facts_of (rows_of table) ≡ map with_terms table → AreFactsOf tables pool table
+      → stamped_facts table ≡ map with_terms table → AreFactsOf tables pool table
       → All (λ fact. All (λ c. c.0 < length pool) fact.row) table
       → (t : ℤ) → HoldTheSame (renamed_facts to (snapshot_of table t)) (snapshot_at (facts_of (map as_terms tables)) t)
   source_holds_the_same covers tables table listed facts within t =

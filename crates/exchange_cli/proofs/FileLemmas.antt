@@ -1,5 +1,9 @@
--- What a shelf holds after files were stored in turn.
-use Rattle.std.proofs.Common.{◌≡◌, ℕ, ◌+◌, ◌<◌, List, [], ◌∷◌, ◌++◌, length, get_or, take, drop, suc, refl, sym, ap, ◌∙◌}
+-- What a shelf holds after files were stored in turn, and the names of the files of a product.
+use Rattle.std.proofs.Common.{◌≡◌, ◌≢◌, ℕ, ◌+◌, ◌<◌, List, [], ◌∷◌, ◌++◌, length, get_or, take, drop, zero, suc, refl, sym, ap, ◌∙◌, subst, arith, codes, All, AllPairs, reverse}
+use Rattle.std.proofs.lemmas.List.{append_cancel_left, append_cancel_right, reverse-append}
+use Rattle.std.proofs.lemmas.List.Elements.{All-nil, All-cons, All-head, All-tail}
+use Rattle.std.proofs.lemmas.List.Kept.{AllPairs-cons}
+use Rattle.std.proofs.lemmas.List.Quantifiers.{all_pairs_push}
 use Rattle.std.proofs.lemmas.List.{take_more}
 use Rattle.std.proofs.Math.Seq.{split_at}
 use Rattle.std.specs.declared.option.Option.{Option}
@@ -7,8 +11,17 @@ use Rattle.std.specs.declared.option.Option.TheVariants.{None, Some}
 use Rattle.std.specs.Option.{option_map}
 use Rattle.std.specs.FinMap.{insert}
 use Rattle.shelf_core.specs.Held.{Held, Sets, OthersStay}
+use Rattle.rule_core.specs.declared.rules.Relation.{Relation}
+use Rattle.rule_core.specs.Validity.{IsValid}
 use Rattle.exchange_cli.specs.Run.{Device, with_files, StoresUpTo}
+use Rattle.exchange_cli.specs.Words.{Command, Exchange}
+use Rattle.exchange_cli.specs.Names.{table_name, verdict_name}
+use Rattle.exchange_cli.specs.Inputs.{Inputs}
+use Rattle.exchange_cli.specs.Target.{TargetTable, AreTableFiles}
+use Rattle.exchange_cli.specs.Files.{HaveDistinctNames}
+use Rattle.exchange_cli.specs.Product.{Makes}
 use Rattle.exchange_cli.specs.declared.file.FileOut.{FileOut}
+use Rattle.exchange_cli.specs.declared.product.Product.{Product}
 
 -- one more file is stored last
 pub with_files-push : (held : Held) (files : List FileOut) (file : FileOut)
@@ -45,3 +58,64 @@ stops_up_to before after files at file name inside is named others = (
   named,
   rw named others,
 )
+
+-- ---- the names of the files of a product
+
+-- two tables below one prefix have the names of their relations
+table_names : (prefix a b : List ℕ) → table_name prefix a ≡ table_name prefix b → a ≡ b
+table_names prefix a b same =
+    append_cancel_left (prefix ++ codes "/") a b
+    (append_cancel_right (prefix ++ codes "/" ++ a) (prefix ++ codes "/" ++ b) (codes ".csv") same)
+
+-- no table has the name of the verdict: that one ends otherwise
+not_verdict : (prefix a : List ℕ) → table_name prefix a ≡ verdict_name prefix → ⊥
+not_verdict prefix a same =
+    let turned : reverse (codes ".csv") ++ reverse (prefix ++ codes "/" ++ a) ≡ reverse (codes "/verdict.txt") ++ reverse prefix =
+    sym (reverse-append (prefix ++ codes "/" ++ a) (codes ".csv")) ∙ ap reverse same ∙ reverse-append prefix (codes "/verdict.txt") in
+    let last : 118 ≡ 116 = ap (λ (l : List ℕ). get_or l 0 0) turned in
+    omega (arith, last)
+
+-- a table that no relation of the list is named as has another name than their files
+apart_from : (prefix name : List ℕ) (relations : List Relation) (files : List FileOut) (tables : List TargetTable)
+    → All (λ r. name ≢ r.name) relations → AreTableFiles prefix relations files tables
+    → All (λ (f : FileOut). table_name prefix name ≢ f.name) files
+apart_from prefix name [] files tables other are = rw are.0 (All-nil (λ (f : FileOut). table_name prefix name ≢ f.name))
+apart_from prefix name (r ∷ rs) [] tables other are = absurd are
+apart_from prefix name (r ∷ rs) (f ∷ fs) [] other are = absurd are
+apart_from prefix name (r ∷ rs) (f ∷ fs) (rows ∷ more) other are =
+    All-cons (λ (g : FileOut). table_name prefix name ≢ g.name) f fs
+    (λ same. All-head (λ (s : Relation). name ≢ s.name) r rs other (table_names prefix name r.name (same ∙ are.0.name)))
+    (apart_from prefix name rs fs more (All-tail (λ (s : Relation). name ≢ s.name) r rs other) are.1)
+
+-- the files of tables have distinct names
+distinct_tables : (prefix : List ℕ) (relations : List Relation) (files : List FileOut) (tables : List TargetTable)
+    → AllPairs (λ (a b : Relation). a.name ≢ b.name) relations → AreTableFiles prefix relations files tables → HaveDistinctNames files
+distinct_tables prefix [] files tables apart are = rw are.0 (λ i j d lt within. absurd (omega arith))
+distinct_tables prefix (r ∷ rs) [] tables apart are = absurd are
+distinct_tables prefix (r ∷ rs) (f ∷ fs) [] apart are = absurd are
+distinct_tables prefix (r ∷ rs) (f ∷ fs) (rows ∷ more) apart are =
+    let head : All (λ (s : Relation). r.name ≢ s.name) rs = λ k d within. apart zero (suc k) d (omega arith) (omega arith) in
+    AllPairs-cons (λ (a b : FileOut). a.name ≢ b.name) f fs
+    (subst (λ n. All (λ (g : FileOut). n ≢ g.name) fs) (sym are.0.name) (apart_from prefix r.name rs fs more head are.1))
+    (distinct_tables prefix rs fs more (λ i j d lt within. apart (suc i) (suc j) d (omega arith) (omega arith)) are.1)
+
+-- none of them is the verdict
+none_is_verdict : (prefix : List ℕ) (relations : List Relation) (files : List FileOut) (tables : List TargetTable) (file : FileOut)
+    → file.name ≡ verdict_name prefix → AreTableFiles prefix relations files tables
+    → All (λ (f : FileOut). f.name ≢ file.name) files
+none_is_verdict prefix [] files tables file verdict are = rw are.0 (All-nil (λ (f : FileOut). f.name ≢ file.name))
+none_is_verdict prefix (r ∷ rs) [] tables file verdict are = absurd are
+none_is_verdict prefix (r ∷ rs) (f ∷ fs) [] file verdict are = absurd are
+none_is_verdict prefix (r ∷ rs) (f ∷ fs) (rows ∷ more) file verdict are =
+    All-cons (λ (g : FileOut). g.name ≢ file.name) f fs (λ same. not_verdict prefix r.name (sym are.0.name ∙ same ∙ verdict))
+    (none_is_verdict prefix rs fs more file verdict are.1)
+
+-- the files of a product have distinct names
+pub distinct_files : (command : Command) (inputs : Inputs) (product : Product) → IsValid inputs.mapping.rules
+    → Makes command inputs product → HaveDistinctNames product.files
+distinct_files (Exchange origin target) inputs product valid makes =
+    let groups = makes.groups in
+    let tables = makes.each.tables in
+    rw makes.files (all_pairs_push (λ (a b : FileOut). a.name ≢ b.name) groups.tables groups.verdict
+    (distinct_tables target inputs.mapping.rules.targets groups.tables tables.tables valid.relations.target_names tables.each)
+    (none_is_verdict target inputs.mapping.rules.targets groups.tables tables.tables groups.verdict makes.each.verdict.name tables.each))

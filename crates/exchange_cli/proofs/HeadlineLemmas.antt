@@ -1,45 +1,67 @@
 -- How the clauses under the headline follow from the way in which a run ends.
-use Rattle.std.proofs.Common.{◌≡◌, ℕ, List, ap, ◌∙◌, subst, inl, inr, arith, IfSome}
+use Rattle.std.proofs.Common.{◌≡◌, ℕ, List, refl, ap, ◌∙◌, subst, inl, inr, arith}
 use Rattle.std.specs.declared.option.Option.TheVariants.{Some}
 use Rattle.std.specs.Option.{option_map}
 use Rattle.shelf_core.specs.Held.{Held}
+use Rattle.shelf_core.specs.Faults.{Rises}
 use Rattle.rule_core.specs.Solution.{HasSolution}
 use Rattle.rule_core.specs.Snapshot.{snapshot_at}
 use Rattle.rule_core.specs.Tables.{facts_of}
-use Rattle.exchange_cli.specs.Words.{Exchange, AreExchange}
-use Rattle.exchange_cli.specs.Endings.{status_of}
-use Rattle.exchange_cli.specs.Target.{Inputs, AreSolvedFiles, name_of, source_of}
-use Rattle.exchange_cli.specs.Work.{Reads, FailsFirst}
-use Rattle.exchange_cli.specs.Run.{Device, Moment, Refuses, Finishes, Causes, Ends, with_files}
-use Rattle.exchange_cli.specs.Headline.{IsUnhindered, WordsClause, StatusClause, TargetClause, OutputClause, StoreClause}
+use Rattle.exchange_cli.specs.Words.{Command, Exchange, Spells}
+use Rattle.exchange_cli.specs.Endings.{IsDone, IsRefused, status_of, status_found, line_of, printed_of}
+use Rattle.exchange_cli.specs.Inputs.{Inputs, name_of, source_of}
+use Rattle.exchange_cli.specs.Product.{IsSolved, Makes, IsFindingOf, IsOwnStatus}
+use Rattle.exchange_cli.specs.Work.{Fetch, AreTold, Reads, FailsFirst}
+use Rattle.exchange_cli.specs.Run.{Device, Moment, Refuses, IsMadeFor, Finishes, Causes, Ends, Says, Untouched, with_files}
+use Rattle.exchange_cli.specs.Headline.{IsUnhindered, Completes, WordsClause, AnswerClause, RefusalClause, CompletesClause, OutputClause, StoreClause, StatusClause, TargetClause, IsLineOf}
 use Rattle.exchange_cli.specs.declared.file.FileOut.{FileOut}
+use Rattle.exchange_cli.specs.declared.product.Product.{Product}
+use Rattle.exchange_cli.specs.declared.ending.Finding.{Finding}
+use Rattle.exchange_cli.specs.declared.ending.Finding.TheVariants.{Solved}
 use Rattle.exchange_cli.specs.declared.ending.Ending.{Ending}
 use Rattle.exchange_cli.specs.declared.ending.Ending.TheVariants.{Done, Words, Missing, TooLong, Mapping, NotBuilt, Table, Read, Write, Output, Memory}
-use Rattle.exchange_cli.proofs.ReadLemmas.{one_command}
+use Rattle.exchange_cli.proofs.ReadLemmas.{IsReadFault, one_command}
 
 -- all that a command reads is one
 abbrev pub OneReading : Type 0
-OneReading = (held : Held) (command : Exchange) (a b : Inputs) → Reads held command a → Reads held command b → a ≡ b
+OneReading = (held : Held) (command : Command) (f g : List Fetch) (a b : Inputs) → AreTold (Some held) f → AreTold (Some held) g
+    → Reads command f a → Reads command g b → a ≡ b
 
 -- where all is read, nothing fails but the shelf itself
 abbrev pub OnlyShelfFails : Type 0
-OnlyShelfFails = (held : Held) (command : Exchange) (inputs : Inputs) → Reads held command inputs → (ending : Ending)
-    → FailsFirst held command ending → (name : List ℕ) × (ending ≡ Read name)
+OnlyShelfFails = (held : Held) (command : Command) (f g : List Fetch) (inputs : Inputs) (ending : Ending)
+    → AreTold (Some held) f → AreTold (Some held) g → Reads command f inputs → FailsFirst command g ending → IsReadFault ending
 
-module _ (one : OneReading) (only : OnlyShelfFails) (words : List (List ℕ)) (before after : Moment) (command : Exchange) (held : Held) (inputs : Inputs) (status : ℕ)
+-- there is one first failure, faults of the shelf apart
+abbrev pub OneRefusal : Type 0
+OneRefusal = (held : Held) (command : Command) (f g : List Fetch) (a b : Ending) → AreTold (Some held) f → AreTold (Some held) g
+    → FailsFirst command f a → FailsFirst command g b
+    → ((name : List ℕ) → ¬ (a ≡ Read name)) → ((name : List ℕ) → ¬ (b ≡ Read name)) → a ≡ b
+
+-- what a command makes is what it may find, and the line says it
+pub finds : (command : Command) (inputs : Inputs) (product : Product) → Makes command inputs product → IsFindingOf command product.finding
+finds (Exchange origin target) inputs product makes = makes.found
+
+pub says_it : (command : Command) (inputs : Inputs) (product : Product) → Makes command inputs product
+    → product.line ≡ printed_of product.finding
+says_it (Exchange origin target) inputs product makes = makes.line
+
+-- ---- unhindered
+
+module _ (one : OneReading) (only : OnlyShelfFails) (words : List (List ℕ)) (before after : Moment) (command : Command) (held : Held) (inputs : Inputs) (status : ℕ)
     (free : IsUnhindered words before after status command held inputs) where
   -- nothing that the command reads is refused
   no_refusal : (ending : Ending) → ((name : List ℕ) → ending ≡ Read name → ⊥) → Refuses words before ending → ⊥
-  no_refusal ending other refuses =
-      let fails = subst (λ c. IfSome c (λ h. FailsFirst h refuses.0 ending)) free.told refuses.2 in
-      let same = one_command words refuses.0 command refuses.1 free.spelled in
-      let failed = only held command inputs free.reads ending (subst (λ c. FailsFirst held c ending) same fails) in
+  no_refusal ending other (c, spelled, fetches, told, fails) =
+      let same = one_command words c command spelled free.spelled in
+      let failed = only held command free.fetches fetches inputs ending free.each (subst (λ t. AreTold t fetches) free.told told) free.reads
+      (subst (λ c. FailsFirst c fetches ending) same fails) in
       other failed.0 failed.1
 
   -- the run is done
   is_done : (ending : Ending) → status ≡ status_of ending → Causes words before after ending
-      → (status ≡ 0) × Finishes words before after Done
-  is_done Done answer cause = (answer, cause)
+      → (finding : Finding) × (status ≡ status_found finding) × Finishes words before after (Done finding)
+  is_done (Done finding) answer cause = (finding, answer, cause)
   is_done Words answer cause = absurd (cause.0 command free.spelled)
   is_done (Missing name) answer cause = absurd (no_refusal (Missing name) (λ n e. cc) cause.0)
   is_done (TooLong name) answer cause = absurd (no_refusal (TooLong name) (λ n e. cc) cause.0)
@@ -51,110 +73,271 @@ module _ (one : OneReading) (only : OnlyShelfFails) (words : List (List ℕ)) (b
   is_done (Write name) answer cause = absurd (free.shelf cause.2.2)
   is_done Output answer cause = absurd (free.out cause.2.2)
 
-  -- the files are those of what was read
-  are_files : Finishes words before after Done
-      → (files : List FileOut) × AreSolvedFiles inputs command.target files × (after.shelf.content ≡ Some (with_files held files))
-  are_files finishes =
-      let files = finishes.0 in
-      let solves = finishes.1 in
-      let same = one_command words solves.0 command solves.1 free.spelled in
-      let there = subst (λ c. IfSome c (λ h. (i : Inputs) × Reads h solves.0 i
-      × AreSolvedFiles i solves.0.target files)) free.told solves.2 in
-      let known = subst (λ (c : Exchange). (i : Inputs) × Reads held c i × AreSolvedFiles i c.target files) same there in
-      let read = one held command known.0 inputs known.1 free.reads in (
-        files,
-        subst (λ i. AreSolvedFiles i command.target files) read known.2,
-        finishes.2.0 ∙ ap (option_map (λ h. with_files h files)) free.told,
-      )
+  -- a product of what was read is delivered
+  pub completes : (ending : Ending) → status ≡ status_of ending → Causes words before after ending
+      → Completes before after status command held inputs
+  completes ending answer cause =
+      let done = is_done ending answer cause in
+      let product = done.2.0 in
+      let made = done.2.1 in
+      let delivered = done.2.2 in
+      let same = one_command words made.0 command made.1 free.spelled in
+      let told = subst (λ t. AreTold t made.2) free.told made.3 in
+      let read = one held command made.2 free.fetches made.4 inputs told free.each (subst (λ c. Reads c made.2 made.4) same made.5) free.reads in
+      let makes : Makes command inputs product =
+      subst (λ i. Makes command i product) read (subst (λ c. Makes c made.4 product) same made.6) in
+      record {
+        product = product;
+        made = makes;
+        found = finds command inputs product makes;
+        answer = done.1 ∙ ap status_found delivered.0;
+        stored = delivered.1 ∙ ap (option_map (λ h. with_files h product.files)) free.told;
+        printed = delivered.2;
+      }
 
 -- where the target is universal at every instant, the mapping has a solution
-has_solution : (inputs : Inputs) (prefix : List ℕ) (files : List FileOut) → AreSolvedFiles inputs prefix files
+has_solution : (inputs : Inputs) (prefix : List ℕ) (product : Product) → IsSolved inputs prefix product
     → HasSolution (name_of inputs) inputs.mapping.rules (source_of inputs)
-has_solution inputs prefix files are = λ t. (snapshot_at (facts_of are.tables) t, (are.target.universal t).solution)
+has_solution inputs prefix product is = λ t.
+    (snapshot_at (facts_of is.each.tables.tables) t, (is.each.tables.target.universal t).solution)
 
-pub status_clause : OneReading → OnlyShelfFails → (words : List (List ℕ)) (before after : Moment) (err now : Device (List ℕ)) (status : ℕ)
-    → Ends words before after err now status
-    → StatusClause words before after status
-status_clause one only words before after err now status ends = λ command held inputs free.
-    let done = is_done one only words before after command held inputs status free ends.ending ends.answer ends.cause in
-    let files = are_files one only words before after command held inputs status free done.1 in
-    (λ z. has_solution inputs command.target files.0 files.1, λ s. done.0)
+pub completes_clause : OneReading → OnlyShelfFails → (words : List (List ℕ)) (before after : Moment) (err now : Device (List ℕ)) (status : ℕ)
+    → Ends words before after err now status → CompletesClause words before after status
+completes_clause one only words before after err now status ends = λ command held inputs free.
+    completes one only words before after command held inputs status free ends.ending ends.answer ends.cause
 
-pub target_clause : OneReading → OnlyShelfFails → (words : List (List ℕ)) (before after : Moment) (err now : Device (List ℕ)) (status : ℕ)
-    → Ends words before after err now status
-    → TargetClause words before after status
-target_clause one only words before after err now status ends = λ command held inputs free zero.
-    are_files one only words before after command held inputs status free
-    (is_done one only words before after command held inputs status free ends.ending ends.answer ends.cause).1
+pub status_clause : (words : List (List ℕ)) (before after : Moment) (status : ℕ)
+    → CompletesClause words before after status → StatusClause words before after status
+status_clause words before after status all = λ origin target held inputs free.
+    let done = all (Exchange origin target) held inputs free in
+    inl (done.answer ∙ ap status_found done.made.found, has_solution inputs target done.product done.made)
 
--- a run that prints nothing, and whose status is not 0
-quiet : (before after : Device (List ℕ)) (status : ℕ) → (status ≡ 0 → ⊥) → after ≡ before → OutputClause before after status
-quiet before after status other same = record { done = λ z. absurd (other z); failed = λ z. inl same; refused = λ p q. same }
+pub target_clause : (words : List (List ℕ)) (before after : Moment) (status : ℕ)
+    → CompletesClause words before after status → TargetClause words before after status
+target_clause words before after status all = λ origin target held inputs free zero.
+    let done = all (Exchange origin target) held inputs free in
+    (done.made.groups, done.made.each, done.stored ∙ ap (λ (files : List FileOut). Some (with_files held files)) done.made.files)
 
-output_of : (words : List (List ℕ)) (before after : Moment) (status : ℕ) (ending : Ending)
-    → status ≡ status_of ending → Causes words before after ending → OutputClause before.out after.out status
-output_of words before after status Done answer cause =
-    record { done = λ z. cause.2.1; failed = λ z. absurd (omega arith); refused = λ p q. absurd (p answer) }
-output_of words before after status Output answer cause =
-    record { done = λ z. absurd (omega arith); failed = λ z. inr (cause.2.1, cause.2.2); refused = λ p q. absurd (q answer) }
-output_of words before after status Words answer cause =
-    quiet before.out after.out status (λ z. omega arith) (ap (λ (m : Moment). m.out) cause.1)
-output_of words before after status (Missing name) answer cause = quiet before.out after.out status (λ z. omega arith) cause.1.1
-output_of words before after status (TooLong name) answer cause = quiet before.out after.out status (λ z. omega arith) cause.1.1
-output_of words before after status (Mapping fault) answer cause = quiet before.out after.out status (λ z. omega arith) cause.1.1
-output_of words before after status NotBuilt answer cause = quiet before.out after.out status (λ z. omega arith) cause.1.1
-output_of words before after status (Table name fault) answer cause = quiet before.out after.out status (λ z. omega arith) cause.1.1
-output_of words before after status (Read name) answer cause = quiet before.out after.out status (λ z. omega arith) cause.1.1
-output_of words before after status Memory answer cause = quiet before.out after.out status (λ z. omega arith) cause.2.1
-output_of words before after status (Write name) answer cause = quiet before.out after.out status (λ z. omega arith) cause.2.1
-
-pub output_clause : (words : List (List ℕ)) (before after : Moment) (err now : Device (List ℕ)) (status : ℕ)
-    → Ends words before after err now status
-    → OutputClause before.out after.out status
-output_clause words before after err now status ends = output_of words before after status ends.ending ends.answer ends.cause
-
-store_of : (words : List (List ℕ)) (before after : Moment) (status : ℕ) (ending : Ending) → status ≡ status_of ending
-    → Causes words before after ending
-    → StoreClause before after status
-store_of words before after status Done answer cause = λ p q. absurd (p answer)
-store_of words before after status Words answer cause =
-    λ p q. (ap (λ (m : Moment). m.shelf.content) cause.1, ap (λ (m : Moment). m.out) cause.1)
-store_of words before after status (Missing name) answer cause = λ p q. cause.1
-store_of words before after status (TooLong name) answer cause = λ p q. cause.1
-store_of words before after status (Mapping fault) answer cause = λ p q. cause.1
-store_of words before after status NotBuilt answer cause = λ p q. cause.1
-store_of words before after status (Table name fault) answer cause = λ p q. cause.1
-store_of words before after status (Read name) answer cause = λ p q. absurd (q answer)
-store_of words before after status Memory answer cause = λ p q. cause.2
-store_of words before after status (Write name) answer cause = λ p q. absurd (q answer)
-store_of words before after status Output answer cause = λ p q. absurd (q answer)
-
-pub store_clause : (words : List (List ℕ)) (before after : Moment) (err now : Device (List ℕ)) (status : ℕ)
-    → Ends words before after err now status
-    → StoreClause before after status
-store_clause words before after err now status ends = store_of words before after status ends.ending ends.answer ends.cause
-
--- the words are a command's, so the status is another
-other_words : (words : List (List ℕ)) (status : ℕ) (command : Exchange) → AreExchange words command → (status ≡ 5 → ⊥)
-    → WordsClause words status
-other_words words status command spelled other = (λ five. absurd (other five), λ none. absurd (none command spelled))
+-- ---- words that spell no command
 
 words_of : (words : List (List ℕ)) (before after : Moment) (status : ℕ) (ending : Ending) → status ≡ status_of ending
-    → Causes words before after ending
-    → WordsClause words status
-words_of words before after status Words answer cause = (λ five. cause.0, λ none. answer)
-words_of words before after status Done answer cause = other_words words status cause.1.0 cause.1.1 (λ five. omega arith)
-words_of words before after status (Missing name) answer cause = other_words words status cause.0.0 cause.0.1 (λ five. omega arith)
-words_of words before after status (TooLong name) answer cause = other_words words status cause.0.0 cause.0.1 (λ five. omega arith)
-words_of words before after status (Mapping fault) answer cause = other_words words status cause.0.0 cause.0.1 (λ five. omega arith)
-words_of words before after status NotBuilt answer cause = other_words words status cause.0.0 cause.0.1 (λ five. omega arith)
-words_of words before after status (Table name fault) answer cause = other_words words status cause.0.0 cause.0.1 (λ five. omega arith)
-words_of words before after status (Read name) answer cause = other_words words status cause.0.0 cause.0.1 (λ five. omega arith)
-words_of words before after status Memory answer cause = other_words words status cause.0 cause.1 (λ five. omega arith)
-words_of words before after status (Write name) answer cause = other_words words status cause.1.0 cause.1.1 (λ five. omega arith)
-words_of words before after status Output answer cause = other_words words status cause.1.0 cause.1.1 (λ five. omega arith)
+    → Causes words before after ending → ((command : Command) → ¬ (Spells words command))
+    → (status ≡ 5) × (after ≡ before) × (line_of ending ≡ line_of Words)
+words_of words before after status Words answer cause none = (answer, cause.1, refl)
+words_of words before after status (Done finding) answer cause none = absurd (none cause.1.0 cause.1.1)
+words_of words before after status (Missing name) answer cause none = absurd (none cause.0.0 cause.0.1)
+words_of words before after status (TooLong name) answer cause none = absurd (none cause.0.0 cause.0.1)
+words_of words before after status (Mapping fault) answer cause none = absurd (none cause.0.0 cause.0.1)
+words_of words before after status NotBuilt answer cause none = absurd (none cause.0.0 cause.0.1)
+words_of words before after status (Table name fault) answer cause none = absurd (none cause.0.0 cause.0.1)
+words_of words before after status (Read name) answer cause none = absurd (none cause.0.0 cause.0.1)
+words_of words before after status Memory answer cause none = absurd (none cause.0 cause.1)
+words_of words before after status (Write name) answer cause none = absurd (none cause.1.0 cause.1.1)
+words_of words before after status Output answer cause none = absurd (none cause.1.0 cause.1.1)
 
 pub words_clause : (words : List (List ℕ)) (before after : Moment) (err now : Device (List ℕ)) (status : ℕ)
-    → Ends words before after err now status
-    → WordsClause words status
-words_clause words before after err now status ends = words_of words before after status ends.ending ends.answer ends.cause
+    → Ends words before after err now status → WordsClause words before after err now status
+words_clause words before after err now status ends = record {
+  answer = λ none. (words_of words before after status ends.ending ends.answer ends.cause none).0;
+  same = λ none. (words_of words before after status ends.ending ends.answer ends.cause none).1;
+  line = λ none.
+      subst (Says err now) (words_of words before after status ends.ending ends.answer ends.cause none).2 ends.line;
+}
+
+-- ---- words that spell a command
+
+own_status : (words : List (List ℕ)) (before : Moment) (status : ℕ) (command : Command) (product : Product) → Spells words command
+    → IsMadeFor words before product → status ≡ status_found product.finding → IsOwnStatus command status
+own_status words before status command product spelled made is =
+    let same = one_command words made.0 command made.1 spelled in
+    (product.finding, subst (λ c. IsFindingOf c product.finding) same (finds made.0 made.4 product made.6), is)
+
+answer_of : (words : List (List ℕ)) (before after : Moment) (status : ℕ) (ending : Ending) → status ≡ status_of ending
+    → Causes words before after ending → AnswerClause words status
+answer_of words before after status Words answer cause command spelled = absurd (cause.0 command spelled)
+answer_of words before after status (Done finding) answer cause command spelled =
+    inl (own_status words before status command cause.0 spelled cause.1 (answer ∙ ap status_found cause.2.0))
+answer_of words before after status (Missing name) answer cause command spelled = inr (inl answer)
+answer_of words before after status (TooLong name) answer cause command spelled = inr (inl answer)
+answer_of words before after status (Mapping fault) answer cause command spelled = inr (inl answer)
+answer_of words before after status NotBuilt answer cause command spelled = inr (inl answer)
+answer_of words before after status (Table name fault) answer cause command spelled = inr (inl answer)
+answer_of words before after status (Read name) answer cause command spelled = inr (inr (inl answer))
+answer_of words before after status (Write name) answer cause command spelled = inr (inr (inl answer))
+answer_of words before after status Output answer cause command spelled = inr (inr (inl answer))
+answer_of words before after status Memory answer cause command spelled = inr (inr (inr answer))
+
+pub answer_clause : (words : List (List ℕ)) (before after : Moment) (err now : Device (List ℕ)) (status : ℕ)
+    → Ends words before after err now status → AnswerClause words status
+answer_clause words before after err now status ends = answer_of words before after status ends.ending ends.answer ends.cause
+
+-- ---- refusals
+
+module _ (only : OnlyShelfFails) (one : OneRefusal) (words : List (List ℕ)) (before after : Moment) (status : ℕ) (command : Command) (held : Held)
+    (fetches : List Fetch) (first : Ending) (spelled : Spells words command) (told : before.shelf.content ≡ Some held)
+    (each : AreTold (Some held) fetches) (fails : FailsFirst command fetches first) (other : (name : List ℕ) → ¬ (first ≡ Read name)) where
+  -- what was refused is this
+  is_first : (ending : Ending) → ((name : List ℕ) → ¬ (ending ≡ Read name)) → Refuses words before ending → ending ≡ first
+  is_first ending apart (c, spells, mine, known, failed) =
+      let same = one_command words c command spells spelled in
+      one held command mine fetches ending first (subst (λ t. AreTold t mine) told known) each
+      (subst (λ c. FailsFirst c mine ending) same failed) fails apart other
+
+  -- nothing was made
+  not_made : (product : Product) → IsMadeFor words before product → ⊥
+  not_made product made =
+      let same = one_command words made.0 command made.1 spelled in
+      let failed = only held command made.2 fetches made.4 first (subst (λ t. AreTold t made.2) told made.3) each
+      (subst (λ c. Reads c made.2 made.4) same made.5) fails in
+      other failed.0 failed.1
+
+  pub refused_so : (ending : Ending) → status ≡ status_of ending → Causes words before after ending → ¬ (status ≡ 4)
+      → ¬ (Rises before.shelf.faults after.shelf.faults) → (ending ≡ first) × Untouched before after
+  refused_so Words answer cause memory shelf = absurd (cause.0 command spelled)
+  refused_so (Missing name) answer cause memory shelf = (is_first (Missing name) (λ n e. cc) cause.0, cause.1)
+  refused_so (TooLong name) answer cause memory shelf = (is_first (TooLong name) (λ n e. cc) cause.0, cause.1)
+  refused_so (Mapping fault) answer cause memory shelf = (is_first (Mapping fault) (λ n e. cc) cause.0, cause.1)
+  refused_so NotBuilt answer cause memory shelf = (is_first NotBuilt (λ n e. cc) cause.0, cause.1)
+  refused_so (Table name fault) answer cause memory shelf = (is_first (Table name fault) (λ n e. cc) cause.0, cause.1)
+  refused_so (Read name) answer cause memory shelf = absurd (shelf cause.2)
+  refused_so Memory answer cause memory shelf = absurd (memory answer)
+  refused_so (Write name) answer cause memory shelf = absurd (not_made cause.0 cause.1)
+  refused_so Output answer cause memory shelf = absurd (not_made cause.0 cause.1)
+  refused_so (Done finding) answer cause memory shelf = absurd (not_made cause.0 cause.1)
+
+pub refusal_clause : OnlyShelfFails → OneRefusal → (words : List (List ℕ)) (before after : Moment) (err now : Device (List ℕ)) (status : ℕ)
+    → Ends words before after err now status → RefusalClause words before after err now status
+refusal_clause only one words before after err now status ends = λ command held fetches first spelled told each fails other memory shelf.
+    let so = refused_so only one words before after status command held fetches first spelled told each fails other ends.ending ends.answer
+    ends.cause memory shelf in
+    (ends.answer ∙ ap status_of so.0, so.1, subst (λ e. Says err now (line_of e)) so.0 ends.line)
+
+-- ---- what is printed
+
+-- what is printed of a product is a line of the words
+line_is : (words : List (List ℕ)) (before : Moment) (product : Product) → IsMadeFor words before product
+    → IsLineOf words (status_found product.finding) product.line
+line_is words before product made =
+    (made.0, product.finding, made.1, finds made.0 made.4 product made.6, refl, says_it made.0 made.4 product made.6)
+
+-- a status is of one kind
+done_or_refused : (status : ℕ) → IsDone status → IsRefused status → ⊥
+done_or_refused status (inl a) (inl b) = omega arith
+done_or_refused status (inl a) (inr (inl b)) = omega arith
+done_or_refused status (inl a) (inr (inr b)) = omega arith
+done_or_refused status (inr a) (inl b) = omega arith
+done_or_refused status (inr a) (inr (inl b)) = omega arith
+done_or_refused status (inr a) (inr (inr b)) = omega arith
+
+done_or_failed : (status : ℕ) → IsDone status → status ≡ 3 → ⊥
+done_or_failed status (inl a) b = omega arith
+done_or_failed status (inr a) b = omega arith
+
+refused_or_failed : (status : ℕ) → IsRefused status → status ≡ 3 → ⊥
+refused_or_failed status (inl a) b = omega arith
+refused_or_failed status (inr (inl a)) b = omega arith
+refused_or_failed status (inr (inr a)) b = omega arith
+
+-- what was found has a status of a run that came to its end
+found_is_done : (finding : Finding) → IsDone (status_found finding)
+found_is_done Solved = inl refl
+
+-- a run that is refused prints nothing
+quiet : (words : List (List ℕ)) (before after : Device (List ℕ)) (status : ℕ) → IsRefused status → after ≡ before
+    → OutputClause words before after status
+quiet words before after status is same =
+    record { done = λ p. absurd (done_or_refused status p is); failed = λ z. inl same; refused = λ p. same }
+
+output_of : (words : List (List ℕ)) (before after : Moment) (status : ℕ) (ending : Ending)
+    → status ≡ status_of ending → Causes words before after ending → OutputClause words before.out after.out status
+output_of words before after status (Done finding) answer cause =
+    let is : status ≡ status_found cause.0.finding = answer ∙ ap status_found cause.2.0 in
+    let done : IsDone status = rw is (found_is_done cause.0.finding) in
+    record {
+      done = λ p. (cause.0.line, rw is (line_is words before cause.0 cause.1), cause.2.2);
+      failed = λ z. absurd (done_or_failed status done z);
+      refused = λ p. absurd (done_or_refused status done p);
+    }
+output_of words before after status Output answer cause =
+    record {
+      done = λ p. absurd (done_or_failed status p answer);
+      failed = λ z. inr (status_found cause.0.finding, cause.0.line, line_is words before cause.0 cause.1, cause.2.1, cause.2.2);
+      refused = λ p. absurd (refused_or_failed status p answer);
+    }
+output_of words before after status (Write name) answer cause =
+    record {
+      done = λ p. absurd (done_or_failed status p answer);
+      failed = λ z. inl cause.2.1;
+      refused = λ p. absurd (refused_or_failed status p answer);
+    }
+output_of words before after status (Read name) answer cause =
+    record {
+      done = λ p. absurd (done_or_failed status p answer);
+      failed = λ z. inl cause.1.1;
+      refused = λ p. absurd (refused_or_failed status p answer);
+    }
+output_of words before after status Words answer cause =
+    quiet words before.out after.out status (inr (inr answer)) (ap (λ (m : Moment). m.out) cause.1)
+output_of words before after status (Missing name) answer cause = quiet words before.out after.out status (inl answer) cause.1.1
+output_of words before after status (TooLong name) answer cause = quiet words before.out after.out status (inl answer) cause.1.1
+output_of words before after status (Mapping fault) answer cause = quiet words before.out after.out status (inl answer) cause.1.1
+output_of words before after status NotBuilt answer cause = quiet words before.out after.out status (inl answer) cause.1.1
+output_of words before after status (Table name fault) answer cause = quiet words before.out after.out status (inl answer) cause.1.1
+output_of words before after status Memory answer cause = quiet words before.out after.out status (inr (inl answer)) cause.2.1
+
+pub output_clause : (words : List (List ℕ)) (before after : Moment) (err now : Device (List ℕ)) (status : ℕ)
+    → Ends words before after err now status → OutputClause words before.out after.out status
+output_clause words before after err now status ends = output_of words before after status ends.ending ends.answer ends.cause
+
+-- ---- what is stored
+
+-- a run that is refused stores nothing
+keeps_all : (words : List (List ℕ)) (before after : Moment) (status : ℕ) → IsRefused status → Untouched before after
+    → StoreClause words before after status
+keeps_all words before after status is same = record {
+  done = λ p. absurd (done_or_refused status p is);
+  failed = λ z. absurd (refused_or_failed status is z);
+  refused = λ p. same;
+}
+
+store_of : (words : List (List ℕ)) (before after : Moment) (status : ℕ) (ending : Ending) → status ≡ status_of ending
+    → Causes words before after ending → StoreClause words before after status
+store_of words before after status (Done finding) answer cause =
+    let is : status ≡ status_found cause.0.finding = answer ∙ ap status_found cause.2.0 in
+    let done : IsDone status = rw is (found_is_done cause.0.finding) in
+    record {
+      done = λ p. (cause.0, cause.1, is, cause.2.1);
+      failed = λ z. absurd (done_or_failed status done z);
+      refused = λ p. absurd (done_or_refused status done p);
+    }
+store_of words before after status Output answer cause =
+    record {
+      done = λ p. absurd (done_or_failed status p answer);
+      failed = λ z. inr (cause.0, cause.1, inl cause.2);
+      refused = λ p. absurd (refused_or_failed status p answer);
+    }
+store_of words before after status (Write name) answer cause =
+    record {
+      done = λ p. absurd (done_or_failed status p answer);
+      failed = λ z. inr (cause.0, cause.1, inr (name, cause.2));
+      refused = λ p. absurd (refused_or_failed status p answer);
+    }
+store_of words before after status (Read name) answer cause =
+    record {
+      done = λ p. absurd (done_or_failed status p answer);
+      failed = λ z. inl (cause.1, cause.2);
+      refused = λ p. absurd (refused_or_failed status p answer);
+    }
+store_of words before after status Words answer cause =
+    keeps_all words before after status (inr (inr answer))
+    (ap (λ (m : Moment). m.shelf.content) cause.1, ap (λ (m : Moment). m.out) cause.1)
+store_of words before after status (Missing name) answer cause = keeps_all words before after status (inl answer) cause.1
+store_of words before after status (TooLong name) answer cause = keeps_all words before after status (inl answer) cause.1
+store_of words before after status (Mapping fault) answer cause = keeps_all words before after status (inl answer) cause.1
+store_of words before after status NotBuilt answer cause = keeps_all words before after status (inl answer) cause.1
+store_of words before after status (Table name fault) answer cause = keeps_all words before after status (inl answer) cause.1
+store_of words before after status Memory answer cause = keeps_all words before after status (inr (inl answer)) cause.2
+
+pub store_clause : (words : List (List ℕ)) (before after : Moment) (err now : Device (List ℕ)) (status : ℕ)
+    → Ends words before after err now status → StoreClause words before after status
+store_clause words before after err now status ends = store_of words before after status ends.ending ends.answer ends.cause

@@ -1,8 +1,11 @@
 -- What a shelf holds is read in one way, and either all of it is read or something is the first failure.
 use Rattle.std.proofs.Common.{◌≡◌, ℕ, ◌-◌, List, [], ◌∷◌, length, codes, refl, sym, ap, ◌∙◌, subst, inl, inr}
+use Rattle.std.specs.Prelude.{Ok}
+use Rattle.std.specs.declared.option.Option.TheVariants.{Some}
 use Rattle.std.specs.FinMap.{get}
+use Rattle.std.proofs.lemmas.List.Elements.{All-head, All-tail}
 use Rattle.shelf_core.specs.Held.{Held}
-use Rattle.shelf_core.specs.Fetching.{fetched_of}
+use Rattle.shelf_core.specs.Fetching.{Shows, fetched_of}
 use Rattle.shelf_core.specs.declared.shelf.Fetched.{Fetched}
 use Rattle.shelf_core.specs.declared.shelf.Fetched.TheVariants as fetched
 use Rattle.rule_core.specs.declared.rules.Relation.{Relation}
@@ -10,22 +13,23 @@ use Rattle.decl_text.specs.declared.fault.MappingFault.{MappingFault}
 use Rattle.mapping_core.specs.Mapping.{Meaning as MappingValue}
 use Rattle.mapping_core.specs.Reading.{IsMapping, IsFirstFault as IsMappingFault}
 use Rattle.temporal_csv.specs.Table.{IsTable, TableFaults}
-use Rattle.exchange_cli.specs.Words.{Exchange, AreExchange}
+use Rattle.exchange_cli.specs.Words.{Command, Exchange, Origin, Spells, origin_of}
 use Rattle.exchange_cli.specs.Names.{table_name}
-use Rattle.exchange_cli.specs.Target.{SourceTable, Inputs}
-use Rattle.exchange_cli.specs.Work.{Gives, ReadsMapping, ReadsBuilt, ReadsTables, Reads, ComesToTable, Comes, FailsFirst, mapping_limit, tables_limit}
+use Rattle.exchange_cli.specs.Built.{Takes}
+use Rattle.exchange_cli.specs.Inputs.{SourceTable, Inputs}
+use Rattle.exchange_cli.specs.Work.{Fetch, AreTold, Gives, ReadsMapping, ReadsTable, ReadsTables, Reads, StopsAt, StopsAtTable, RefusesMapping, RefusesTable, FailsFirst, mapping_limit, tables_limit}
 use Rattle.exchange_cli.specs.declared.ending.Ending.{Ending}
-use Rattle.exchange_cli.specs.declared.ending.Ending.TheVariants.{Done, Words, Missing, TooLong, Mapping, NotBuilt, Table, Read, Write, Output, Memory}
+use Rattle.exchange_cli.specs.declared.ending.Ending.TheVariants.{Missing, TooLong, Mapping, NotBuilt, Table, Read}
 
 -- the words are one command's
-pub one_command : (words : List (List ℕ)) (a b : Exchange) → AreExchange words a → AreExchange words b → a ≡ b
-one_command words a b p q =
-    let same : codes "exchange" ∷ a.mapping ∷ a.source ∷ a.target ∷ [] ≡ codes "exchange" ∷ b.mapping ∷ b.source ∷ b.target
-    ∷ [] = sym p ∙ q in
+pub one_command : (words : List (List ℕ)) (a b : Command) → Spells words a → Spells words b → a ≡ b
+one_command words (Exchange a target) (Exchange b other) p q =
+    let same : codes "exchange" ∷ a.mapping ∷ a.source ∷ target ∷ [] ≡ codes "exchange" ∷ b.mapping ∷ b.source ∷ other ∷ [] =
+    sym p ∙ q in
     let mapping : a.mapping ≡ b.mapping = cc in
     let source : a.source ≡ b.source = cc in
-    let target : a.target ≡ b.target = cc in
-    λ i. record { mapping = mapping i; source = source i; target = target i }
+    let out : target ≡ other = cc in
+    λ i. Exchange (record { mapping = mapping i; source = source i }) (out i)
 
 -- ---- what the laws of the readers say
 
@@ -45,6 +49,10 @@ OneTable = (columns : List (List ℕ)) (bytes : List ℕ) (a b : SourceTable) �
 abbrev pub TableOrFault : Type 0
 TableOrFault = (columns : List (List ℕ)) (bytes : List ℕ) (facts : SourceTable) → IsTable columns bytes facts → ¬ TableFaults columns bytes
 
+-- the ending is a fault of the shelf
+abbrev pub IsReadFault : Ending → Type 0
+IsReadFault ending = (name : List ℕ) × (ending ≡ Read name)
+
 -- ---- a fetch
 
 -- a fetch gives one list of bytes
@@ -53,100 +61,140 @@ bytes_of (fetched.Bytes bytes) other = bytes
 bytes_of fetched.Missing other = other
 bytes_of fetched.TooLong other = other
 
-pub one_fetch : (held : Held) (name : List ℕ) (limit : ℕ) (a b : List ℕ) → Gives held name limit a → Gives held name limit b → a ≡ b
+pub one_bytes : (found : Fetched) (a b : List ℕ) → fetched.Bytes a ≡ found → fetched.Bytes b ≡ found → a ≡ b
 unfolding bytes_of
-one_fetch held name limit a b p q = ap (λ f. bytes_of f a) (sym p ∙ q)
+one_bytes found a b p q = ap (λ f. bytes_of f a) (p ∙ sym q)
 
-pub not_missing : (held : Held) (name : List ℕ) (limit : ℕ) (bytes : List ℕ) → Gives held name limit bytes
-    → fetched_of (get held name) limit ≡ fetched.Missing → ⊥
-not_missing held name limit bytes p q = cc
+module _ (held : Held) where
+  -- the first of fetches that are told, and those behind it
+  pub first_told : (fetches : List Fetch) (fetch : Fetch) (later : List Fetch) → fetches ≡ fetch ∷ later → AreTold (Some held) fetches
+      → Shows (Some held) fetch.name fetch.limit fetch.answer
+  first_told fetches fetch later all told = All-head (λ (f : Fetch). Shows (Some held) f.name f.limit f.answer) fetch later (subst (λ f. AreTold (Some held) f) all told)
 
-pub not_too_long : (held : Held) (name : List ℕ) (limit : ℕ) (bytes : List ℕ) → Gives held name limit bytes
-    → fetched_of (get held name) limit ≡ fetched.TooLong → ⊥
-not_too_long held name limit bytes p q = cc
+  pub later_told : (fetches : List Fetch) (fetch : Fetch) (later : List Fetch) → fetches ≡ fetch ∷ later → AreTold (Some held) fetches
+      → AreTold (Some held) later
+  later_told fetches fetch later all told = All-tail (λ (f : Fetch). Shows (Some held) f.name f.limit f.answer) fetch later (subst (λ f. AreTold (Some held) f) all told)
+
+  -- what was answered is what is held
+  pub answer_is : (fetch : Fetch) (name : List ℕ) (limit : ℕ) (found : Fetched) → Shows (Some held) fetch.name fetch.limit fetch.answer
+      → fetch.name ≡ name → fetch.limit ≡ limit → fetch.answer ≡ Ok found → found ≡ fetched_of (get held name) limit
+  answer_is fetch name limit found shows named limited is =
+      subst (λ n. found ≡ fetched_of (get held n) limit) named
+      (subst (λ l. found ≡ fetched_of (get held fetch.name) l) limited (subst (λ a. Shows (Some held) fetch.name fetch.limit a) is shows))
+
+  pub given_is : (fetch : Fetch) (name : List ℕ) (limit : ℕ) (bytes : List ℕ) → Shows (Some held) fetch.name fetch.limit fetch.answer
+      → Gives fetch name limit bytes → fetched.Bytes bytes ≡ fetched_of (get held name) limit
+  given_is fetch name limit bytes shows gives = subst (λ (f : Fetch). Shows (Some held) f.name f.limit f.answer) gives shows
+
+  -- where the bytes that are held have no fault, only the shelf itself ends the run at this fetch
+  pub only_shelf_stops : (HasFault : List ℕ → Ending → Type 0) (fetch : Fetch) (name : List ℕ) (limit : ℕ) (bytes : List ℕ) (ending : Ending)
+      → Shows (Some held) fetch.name fetch.limit fetch.answer → fetched.Bytes bytes ≡ fetched_of (get held name) limit
+      → ((e : Ending) → ¬ (HasFault bytes e)) → StopsAt fetch name limit HasFault ending → IsReadFault ending
+  only_shelf_stops HasFault fetch name limit bytes (Missing about) shows is clean at =
+      absurd (let other = answer_is fetch name limit fetched.Missing shows at.named at.limited at.stops.1 in cc)
+  only_shelf_stops HasFault fetch name limit bytes (TooLong about) shows is clean at =
+      absurd (let other = answer_is fetch name limit fetched.TooLong shows at.named at.limited at.stops.1 in cc)
+  only_shelf_stops HasFault fetch name limit bytes (Read about) shows is clean at = (about, refl)
+  only_shelf_stops HasFault fetch name limit bytes ending shows is clean at =
+      let other = answer_is fetch name limit (fetched.Bytes at.stops.0) shows at.named at.limited at.stops.1 in
+      absurd (clean ending (subst (λ b. HasFault b ending) (one_bytes (fetched_of (get held name) limit) at.stops.0 bytes other is) at.stops.2))
 
 -- ---- all that is read
 
-pub one_mapping_read : OneMapping → (held : Held) (command : Exchange) (a b : MappingValue)
-    → ReadsMapping held command a → ReadsMapping held command b → a ≡ b
-one_mapping_read one_mapping held command a b p q =
-    one_mapping p.0 a b p.2 (subst (λ bytes. IsMapping bytes b) (one_fetch held command.mapping mapping_limit q.0 p.0 q.1 p.1) q.2)
+-- a text that is a mapping that the command takes is not refused
+pub taken_is_not_refused : OneMapping → MappingOrFault → (command : Command) (bytes : List ℕ) (mapping : MappingValue)
+    → IsMapping bytes mapping → Takes command mapping.rules → (ending : Ending) → ¬ (RefusesMapping command bytes ending)
+taken_is_not_refused one sound command bytes mapping is takes (Mapping fault) refused = sound bytes mapping fault is refused
+taken_is_not_refused one sound command bytes mapping is takes NotBuilt refused =
+    refused.2 (subst (λ (m : MappingValue). Takes command m.rules) (one bytes mapping refused.0 is refused.1) takes)
+taken_is_not_refused one sound command bytes mapping is takes other refused = refused
 
-module _ (one_mapping : OneMapping) (one_table : OneTable) (held : Held) (command : Exchange) where
-  one_reading_of_tables : (prefix : List ℕ) (left : ℕ) (relations : List Relation) (a b : List SourceTable)
-      → ReadsTables held prefix left relations a → ReadsTables held prefix left relations b → a ≡ b
-  one_reading_of_tables prefix left [] a b p q = p ∙ sym q
-  one_reading_of_tables prefix left (r ∷ rs) a b p q =
-      let same = one_fetch held (table_name prefix r.name) left q.0 p.0 q.3 p.3 in
-      let facts = one_table r.columns p.0 p.1 q.1 p.4 (subst (λ bytes. IsTable r.columns bytes q.1) same q.4) in
-      let others = one_reading_of_tables prefix (left - length p.0) rs p.2 q.2 p.6 (subst (λ
-      (bytes : List ℕ). ReadsTables held prefix (left - length bytes) rs q.2) same q.6) in
-      p.5 ∙ (λ i. facts i ∷ others i) ∙ sym q.5
+-- a table that has facts is not refused
+pub table_is_not_refused : TableOrFault → (prefix : List ℕ) (relation : Relation) (bytes : List ℕ) (facts : SourceTable)
+    → IsTable relation.columns bytes facts → (ending : Ending) → ¬ (RefusesTable prefix relation bytes ending)
+table_is_not_refused clean prefix relation bytes facts table (Table name fault) refused =
+    clean relation.columns bytes facts table (fault, refused.1)
+table_is_not_refused clean prefix relation bytes facts table other refused = refused
+
+module _ (held : Held) where
+  pub one_mapping_read : OneMapping → (f g : Fetch) (origin : Origin) (a b : MappingValue)
+      → Shows (Some held) f.name f.limit f.answer → Shows (Some held) g.name g.limit g.answer
+      → ReadsMapping f origin a → ReadsMapping g origin b → a ≡ b
+  one_mapping_read one f g origin a b first second p q =
+      let same = one_bytes (fetched_of (get held origin.mapping) mapping_limit) q.0 p.0
+      (given_is held g origin.mapping mapping_limit q.0 second q.1) (given_is held f origin.mapping mapping_limit p.0 first p.1) in
+      one p.0 a b p.2 (subst (λ bytes. IsMapping bytes b) same q.2)
+
+  -- two tables that were read of one name with one limit have the same bytes
+  pub same_bytes : (f g : Fetch) (prefix : List ℕ) (relation : Relation) (limit size other : ℕ) (facts others : SourceTable)
+      → Shows (Some held) f.name f.limit f.answer → Shows (Some held) g.name g.limit g.answer
+      → (p : ReadsTable f prefix relation limit size facts) → (q : ReadsTable g prefix relation limit other others) → q.0 ≡ p.0
+  same_bytes f g prefix relation limit size other facts others first second p q =
+      let name = table_name prefix relation.name in
+      one_bytes (fetched_of (get held name) limit) q.0 p.0 (given_is held g name limit q.0 second q.1) (given_is held f name limit p.0 first p.1)
+
+  pub same_size : (f g : Fetch) (prefix : List ℕ) (relation : Relation) (limit size other : ℕ) (facts others : SourceTable)
+      → Shows (Some held) f.name f.limit f.answer → Shows (Some held) g.name g.limit g.answer
+      → ReadsTable f prefix relation limit size facts → ReadsTable g prefix relation limit other others → other ≡ size
+  same_size f g prefix relation limit size other facts others first second p q =
+      q.2 ∙ ap length (same_bytes f g prefix relation limit size other facts others first second p q) ∙ sym p.2
+
+  one_reading_of_tables : OneTable → (prefix : List ℕ) (left : ℕ) (relations : List Relation) (f g : List Fetch) (a b : List SourceTable)
+      → AreTold (Some held) f → AreTold (Some held) g
+      → ReadsTables f prefix left relations a → ReadsTables g prefix left relations b → a ≡ b
+  one_reading_of_tables one prefix left [] f g a b first second p q = p.1 ∙ sym q.1
+  one_reading_of_tables one prefix left (r ∷ rs) f g a b first second p q =
+      let here = first_told held f p.0 p.1 p.5 first in
+      let there = first_told held g q.0 q.1 q.5 second in
+      let bytes = same_bytes p.0 q.0 prefix r left p.2 q.2 p.3 q.3 here there p.6 q.6 in
+      let size = same_size p.0 q.0 prefix r left p.2 q.2 p.3 q.3 here there p.6 q.6 in
+      let facts = one r.columns p.6.0 p.3 q.3 p.6.3 (subst (λ b. IsTable r.columns b q.3) bytes q.6.3) in
+      let others = one_reading_of_tables one prefix (left - p.2) rs p.1 q.1 p.4 q.4 (later_told held f p.0 p.1 p.5 first)
+      (later_told held g q.0 q.1 q.5 second) p.8 (subst (λ n. ReadsTables q.1 prefix (left - n) rs q.4) size q.8) in
+      p.7 ∙ (λ i. facts i ∷ others i) ∙ sym q.7
 
   -- all that a command reads is one
-  pub one_reading : (a b : Inputs) → Reads held command a → Reads held command b → a ≡ b
-  one_reading a b p q =
-      let mapping = one_mapping_read one_mapping held command a.mapping b.mapping p.mapping.0 q.mapping.0 in
-      let tables = one_reading_of_tables command.source tables_limit a.mapping.rules.sources a.tables b.tables p.tables
-      (subst (λ (m : MappingValue). ReadsTables held command.source tables_limit m.rules.sources b.tables) (sym mapping) q.tables) in
+  pub one_reading : OneMapping → OneTable → (command : Command) (f g : List Fetch) (a b : Inputs)
+      → AreTold (Some held) f → AreTold (Some held) g → Reads command f a → Reads command g b → a ≡ b
+  one_reading one_mapping one_table command f g a b first second p q =
+      let origin = origin_of command in
+      let mapping = one_mapping_read one_mapping p.read.first q.read.first origin a.mapping b.mapping
+      (first_told held f p.read.first p.read.later p.read.all first) (first_told held g q.read.first q.read.later q.read.all second)
+      p.read.mapping q.read.mapping in
+      let tables = one_reading_of_tables one_table origin.source tables_limit a.mapping.rules.sources p.read.later q.read.later a.tables b.tables
+      (later_told held f p.read.first p.read.later p.read.all first) (later_told held g q.read.first q.read.later q.read.all second)
+      p.read.tables
+      (subst (λ (m : MappingValue). ReadsTables q.read.later origin.source tables_limit m.rules.sources b.tables) (sym mapping) q.read.tables) in
       λ i. record { mapping = mapping i; tables = tables i }
 
-  -- where all tables are read, so is each that the run comes to
-  comes_to_read : (prefix : List ℕ) (left : ℕ) (relations : List Relation) (tables : List SourceTable) (relation : Relation) (limit : ℕ)
-      → ReadsTables held prefix left relations tables → ComesToTable held prefix left relations relation limit
-      → (bytes : List ℕ) × (facts : SourceTable) × Gives held (table_name prefix relation.name) limit bytes
-      × IsTable relation.columns bytes facts
-  comes_to_read prefix left [] tables relation limit reads comes = absurd comes
-  comes_to_read prefix left (r ∷ rs) tables relation limit reads (inl here) =
-      rw (here.0, here.1) (reads.0, reads.1, reads.3, reads.4)
-  comes_to_read prefix left (r ∷ rs) tables relation limit reads (inr later) =
-      let same = one_fetch held (table_name prefix r.name) left later.0 reads.0 later.2 reads.3 in
-      comes_to_read prefix (left - length reads.0) rs reads.2 relation limit reads.6
-      (subst (λ (bytes : List ℕ). ComesToTable held prefix (left - length bytes) rs relation limit) same later.4)
+  -- where all tables are read, only the shelf itself ends the run at one
+  only_shelf_stops_tables : TableOrFault → (prefix : List ℕ) (left : ℕ) (relations : List Relation) (f g : List Fetch)
+      (tables : List SourceTable) (ending : Ending) → AreTold (Some held) f → AreTold (Some held) g
+      → ReadsTables f prefix left relations tables → StopsAtTable g prefix left relations ending → IsReadFault ending
+  only_shelf_stops_tables clean prefix left [] f g tables ending first second p q = absurd q
+  only_shelf_stops_tables clean prefix left (r ∷ rs) f g tables ending first second p (fetch, later, all, inl here) =
+      only_shelf_stops held (RefusesTable prefix r) fetch (table_name prefix r.name) left p.6.0 ending (first_told held g fetch later all second)
+      (given_is held p.0 (table_name prefix r.name) left p.6.0 (first_told held f p.0 p.1 p.5 first) p.6.1)
+      (table_is_not_refused clean prefix r p.6.0 p.3 p.6.3) here.1
+  only_shelf_stops_tables clean prefix left (r ∷ rs) f g tables ending first second p (fetch, later, all, inr (size, facts, read, more)) =
+      let same = same_size p.0 fetch prefix r left p.2 size p.3 facts (first_told held f p.0 p.1 p.5 first)
+      (first_told held g fetch later all second) p.6 read in
+      only_shelf_stops_tables clean prefix (left - p.2) rs p.1 later p.4 ending (later_told held f p.0 p.1 p.5 first)
+      (later_told held g fetch later all second) p.8 (subst (λ n. StopsAtTable later prefix (left - n) rs ending) same more)
 
-  module _ (inputs : Inputs) (reads : Reads held command inputs) where
-    comes_to_relation : (relation : Relation) (limit : ℕ) (mapping : MappingValue)
-        → ReadsBuilt held command mapping
-        → ComesToTable held command.source tables_limit mapping.rules.sources relation limit
-        → (bytes : List ℕ) × (facts : SourceTable) × Gives held (table_name command.source relation.name) limit bytes
-        × IsTable relation.columns bytes facts
-    comes_to_relation relation limit mapping built comes =
-        let same = one_mapping_read one_mapping held command mapping inputs.mapping built.0 reads.mapping.0 in
-        comes_to_read command.source tables_limit inputs.mapping.rules.sources inputs.tables relation limit reads.tables
-        (subst (λ (m : MappingValue). ComesToTable held command.source tables_limit m.rules.sources relation limit) same comes)
-
-    -- where all is read, each fetch that the run comes to gives bytes
-    comes_to_bytes : (name : List ℕ) (limit : ℕ) → Comes held command name limit → (bytes : List ℕ) × Gives held name limit bytes
-    comes_to_bytes name limit (inl first) = rw (first.0, first.1) (reads.mapping.0.0, reads.mapping.0.1)
-    comes_to_bytes name limit (inr table) =
-        let found = comes_to_relation table.0 limit table.2.0 table.2.1 table.2.2 in
-        rw table.1 (found.0, found.2)
-
-    -- where all is read, nothing fails but the shelf itself
-    pub nothing_fails : MappingOrFault → TableOrFault → (ending : Ending) → FailsFirst held command ending
-        → (name : List ℕ) × (ending ≡ Read name)
-    nothing_fails sound clean (Missing name) fails =
-        let found = comes_to_bytes name fails.0 fails.1 in
-        absurd (not_missing held name fails.0 found.0 found.1 fails.2)
-    nothing_fails sound clean (TooLong name) fails =
-        let found = comes_to_bytes name fails.0 fails.1 in
-        absurd (not_too_long held name fails.0 found.0 found.1 fails.2)
-    nothing_fails sound clean (Mapping fault) fails =
-        let same = one_fetch held command.mapping mapping_limit reads.mapping.0.0 fails.0 reads.mapping.0.1 fails.1 in
-        absurd (sound fails.0 inputs.mapping fault (subst (λ bytes. IsMapping bytes inputs.mapping) same reads.mapping.0.2) fails.2)
-    nothing_fails sound clean NotBuilt fails =
-        let same = one_mapping_read one_mapping held command inputs.mapping fails.0 reads.mapping.0 fails.1 in
-        absurd (fails.2 (rw same at reads.mapping.1))
-    nothing_fails sound clean (Table name fault) fails =
-        let relation = fails.0 in
-        let found = comes_to_relation relation fails.1 fails.4.0 fails.4.1 fails.4.2 in
-        let gives = subst (λ n. Gives held n fails.1 fails.2) fails.3 fails.5 in
-        let same = one_fetch held (table_name command.source relation.name) fails.1 found.0 fails.2 found.2 gives in
-        absurd (clean relation.columns fails.2 found.1 (subst (λ bytes. IsTable relation.columns bytes found.1) same found.3)
-        (fault, fails.6))
-    nothing_fails sound clean (Read name) fails = (name, refl)
-    nothing_fails sound clean Done fails = absurd fails
-    nothing_fails sound clean Words fails = absurd fails
-    nothing_fails sound clean (Write name) fails = absurd fails
-    nothing_fails sound clean Output fails = absurd fails
-    nothing_fails sound clean Memory fails = absurd fails
+  -- where all is read, only the shelf itself fails
+  pub only_shelf_fails : OneMapping → MappingOrFault → TableOrFault → (command : Command) (f g : List Fetch) (inputs : Inputs) (ending : Ending)
+      → AreTold (Some held) f → AreTold (Some held) g → Reads command f inputs → FailsFirst command g ending → IsReadFault ending
+  only_shelf_fails one sound clean command f g inputs ending first second p (fetch, later, all, inl here) =
+      let origin = origin_of command in
+      let bytes = p.read.mapping.0 in
+      only_shelf_stops held (RefusesMapping command) fetch origin.mapping mapping_limit bytes ending (first_told held g fetch later all second)
+      (given_is held p.read.first origin.mapping mapping_limit bytes (first_told held f p.read.first p.read.later p.read.all first) p.read.mapping.1)
+      (taken_is_not_refused one sound command bytes inputs.mapping p.read.mapping.2 p.taken) here.1
+  only_shelf_fails one sound clean command f g inputs ending first second p (fetch, later, all, inr (mapping, read, takes, stops)) =
+      let origin = origin_of command in
+      let same = one_mapping_read one fetch p.read.first origin mapping inputs.mapping (first_told held g fetch later all second)
+      (first_told held f p.read.first p.read.later p.read.all first) read p.read.mapping in
+      only_shelf_stops_tables clean origin.source tables_limit inputs.mapping.rules.sources p.read.later later inputs.tables ending
+      (later_told held f p.read.first p.read.later p.read.all first) (later_told held g fetch later all second) p.read.tables
+      (subst (λ (m : MappingValue). StopsAtTable later origin.source tables_limit m.rules.sources ending) same stops)

@@ -1,57 +1,89 @@
 -- How the steps of a run make its ending.
-use Rattle.std.proofs.Common.{ℕ, ◌≤◌, List, refl, IfSome}
-use Rattle.std.specs.declared.option.Option.{Option}
-use Rattle.std.specs.declared.option.Option.TheVariants.{None, Some}
+use Rattle.std.proofs.Common.{ℕ, ◌-◌, ◌≤◌, List, [], ◌∷◌, refl, inl, inr}
+use Rattle.std.specs.Prelude.{⊤}
 use Rattle.shelf_core.specs.Held.{Held}
 use Rattle.shelf_core.proofs.FaultLemmas.{then_rises}
-use Rattle.exchange_cli.specs.Words.{Exchange, AreExchange}
-use Rattle.exchange_cli.specs.Target.{Inputs, AreSolvedFiles}
-use Rattle.exchange_cli.specs.Work.{Reads}
-use Rattle.exchange_cli.specs.Run.{Device, device, moment, Delivers, Solves, Causes}
+use Rattle.rule_core.specs.declared.rules.Relation.{Relation}
+use Rattle.exchange_cli.specs.Words.{Command, Spells, origin_of}
+use Rattle.exchange_cli.specs.Work.{Fetch, Stops, StopsAtTable, RefusesMapping, RefusesTable, FailsFirst, tables_limit}
+use Rattle.exchange_cli.specs.Run.{Device, moment, Delivers, IsMadeFor, Causes}
 use Rattle.exchange_cli.specs.Steps.{Keeps, StopsEarly}
-use Rattle.exchange_cli.specs.declared.file.FileOut.{FileOut}
+use Rattle.exchange_cli.specs.declared.product.Product.{Product}
 use Rattle.exchange_cli.specs.declared.ending.Ending.{Ending}
 use Rattle.exchange_cli.specs.declared.ending.Ending.TheVariants.{Done, Words, Missing, TooLong, Mapping, NotBuilt, Table, Read, Write, Output, Memory}
 
+-- an ending that a fetch or the reading of what it gave may have
+CanFail : Ending → Type 0
+CanFail (Missing name) = ⊤
+CanFail (TooLong name) = ⊤
+CanFail (Mapping fault) = ⊤
+CanFail NotBuilt = ⊤
+CanFail (Table name fault) = ⊤
+CanFail (Read name) = ⊤
+CanFail other = ⊥
+
+mapping_can_fail : (command : Command) (fetch : Fetch) (ending : Ending) → Stops fetch (RefusesMapping command) ending → CanFail ending
+unfolding CanFail
+mapping_can_fail command fetch (Missing name) stops = tt
+mapping_can_fail command fetch (TooLong name) stops = tt
+mapping_can_fail command fetch (Mapping fault) stops = tt
+mapping_can_fail command fetch NotBuilt stops = tt
+mapping_can_fail command fetch (Read name) stops = tt
+mapping_can_fail command fetch other stops = absurd stops.2
+
+table_can_fail : (prefix : List ℕ) (relation : Relation) (fetch : Fetch) (ending : Ending)
+    → Stops fetch (RefusesTable prefix relation) ending → CanFail ending
+unfolding CanFail
+table_can_fail prefix relation fetch (Missing name) stops = tt
+table_can_fail prefix relation fetch (TooLong name) stops = tt
+table_can_fail prefix relation fetch (Table name fault) stops = tt
+table_can_fail prefix relation fetch (Read name) stops = tt
+table_can_fail prefix relation fetch other stops = absurd stops.2
+
+tables_can_fail : (fetches : List Fetch) (prefix : List ℕ) (left : ℕ) (relations : List Relation) (ending : Ending)
+    → StopsAtTable fetches prefix left relations ending → CanFail ending
+tables_can_fail fetches prefix left [] ending stops = absurd stops
+tables_can_fail fetches prefix left (r ∷ rs) ending (fetch, later, all, inl here) = table_can_fail prefix r fetch ending here.1.stops
+tables_can_fail fetches prefix left (r ∷ rs) ending (fetch, later, all, inr (size, facts, read, more)) =
+    tables_can_fail later prefix (left - size) rs ending more
+
+can_fail : (command : Command) (fetches : List Fetch) (ending : Ending) → FailsFirst command fetches ending → CanFail ending
+can_fail command fetches ending (fetch, later, all, inl here) = mapping_can_fail command fetch ending here.1.stops
+can_fail command fetches ending (fetch, later, all, inr (mapping, read, takes, stops)) =
+    tables_can_fail later (origin_of command).source tables_limit mapping.rules.sources ending stops
+
 -- a run that stops before the first store ends so
-pub stops_early : (words : List (List ℕ)) (before after : Device Held) (out : Device (List ℕ)) (command : Exchange) (ending : Ending)
-    → AreExchange words command → Keeps before after → StopsEarly before after command ending → Causes words (moment before out)
-    (moment after out) ending
-stops_early words before after out command (Missing name) spelled keeps stops = ((command, spelled, stops), (keeps.same, refl))
-stops_early words before after out command (TooLong name) spelled keeps stops = ((command, spelled, stops), (keeps.same, refl))
-stops_early words before after out command (Mapping fault) spelled keeps stops = ((command, spelled, stops), (keeps.same, refl))
-stops_early words before after out command NotBuilt spelled keeps stops = ((command, spelled, stops), (keeps.same, refl))
-stops_early words before after out command (Table name fault) spelled keeps stops = ((command, spelled, stops), (keeps.same, refl))
-stops_early words before after out command (Read name) spelled keeps stops = ((command, spelled, stops.0), (keeps.same, refl), stops.1)
-stops_early words before after out command Memory spelled keeps stops = (command, spelled, (keeps.same, refl))
-stops_early words before after out command Done spelled keeps stops = absurd stops
-stops_early words before after out command Words spelled keeps stops = absurd stops
-stops_early words before after out command (Write name) spelled keeps stops = absurd stops
-stops_early words before after out command Output spelled keeps stops = absurd stops
+pub stops_early : (words : List (List ℕ)) (before after : Device Held) (out : Device (List ℕ)) (command : Command) (ending : Ending)
+    → Spells words command → Keeps before after → StopsEarly before after command ending
+    → Causes words (moment before out) (moment after out) ending
+unfolding CanFail
+stops_early words before after out command ending spelled keeps (inl memory) = rw memory (command, spelled, (keeps.same, refl))
+stops_early words before after out command (Missing name) spelled keeps (inr (fetches, told, fails, counted)) =
+    ((command, spelled, fetches, told, fails), (keeps.same, refl))
+stops_early words before after out command (TooLong name) spelled keeps (inr (fetches, told, fails, counted)) =
+    ((command, spelled, fetches, told, fails), (keeps.same, refl))
+stops_early words before after out command (Mapping fault) spelled keeps (inr (fetches, told, fails, counted)) =
+    ((command, spelled, fetches, told, fails), (keeps.same, refl))
+stops_early words before after out command NotBuilt spelled keeps (inr (fetches, told, fails, counted)) =
+    ((command, spelled, fetches, told, fails), (keeps.same, refl))
+stops_early words before after out command (Table name fault) spelled keeps (inr (fetches, told, fails, counted)) =
+    ((command, spelled, fetches, told, fails), (keeps.same, refl))
+stops_early words before after out command (Read name) spelled keeps (inr (fetches, told, fails, counted)) =
+    ((command, spelled, fetches, told, fails), (keeps.same, refl), counted name refl)
+stops_early words before after out command Memory spelled keeps (inr stops) = (command, spelled, (keeps.same, refl))
+stops_early words before after out command (Done finding) spelled keeps (inr stops) = absurd (can_fail command stops.0 (Done finding) stops.2)
+stops_early words before after out command Words spelled keeps (inr stops) = absurd (can_fail command stops.0 Words stops.2)
+stops_early words before after out command (Write name) spelled keeps (inr stops) = absurd (can_fail command stops.0 (Write name) stops.2)
+stops_early words before after out command Output spelled keeps (inr stops) = absurd (can_fail command stops.0 Output stops.2)
 
--- what is read and solved, where the shelf tells what it holds
-pub solves : (words : List (List ℕ)) (content : Option Held) (faults : ℕ) (out : Device (List ℕ)) (command : Exchange)
-    (inputs : Inputs) (files : List FileOut)
-    → AreExchange words command → IfSome content (λ held. Reads held command inputs) → AreSolvedFiles inputs command.target files
-    → Solves words (moment (device content faults) out) files
-solves words None faults out command inputs files spelled reads solved = (command, spelled, tt)
-solves words (Some held) faults out command inputs files spelled reads solved = (command, spelled, (inputs, reads, solved))
-
--- files that are delivered after the reading are delivered by the run
-pub finishes : (words : List (List ℕ)) (before middle after : Device Held) (out printed : Device (List ℕ)) (files : List FileOut)
+-- a product that is delivered after the reading is delivered by the run
+pub finishes : (words : List (List ℕ)) (before middle after : Device Held) (out printed : Device (List ℕ)) (product : Product)
     (ending : Ending)
-    → Solves words (moment before out) files → Keeps before middle → middle.faults ≤ after.faults
-    → Delivers (moment middle out) (moment after printed) files ending → Causes words (moment before out) (moment after printed) ending
-finishes words before middle after out printed files Done solved keeps later done = (files, solved, rw keeps.same at done)
-finishes words before middle after out printed files (Write name) solved keeps later done =
-    (files, solved, ((rw keeps.same at done.0), done.1, then_rises before.faults middle.faults after.faults keeps.later later done.2))
-finishes words before middle after out printed files Output solved keeps later done =
-    (files, solved, (rw keeps.same at done.0, done.1, done.2))
-finishes words before middle after out printed files Words solved keeps later done = absurd done
-finishes words before middle after out printed files (Missing name) solved keeps later done = absurd done
-finishes words before middle after out printed files (TooLong name) solved keeps later done = absurd done
-finishes words before middle after out printed files (Mapping fault) solved keeps later done = absurd done
-finishes words before middle after out printed files NotBuilt solved keeps later done = absurd done
-finishes words before middle after out printed files (Table name fault) solved keeps later done = absurd done
-finishes words before middle after out printed files (Read name) solved keeps later done = absurd done
-finishes words before middle after out printed files Memory solved keeps later done = absurd done
+    → IsMadeFor words (moment before out) product → Keeps before middle → middle.faults ≤ after.faults
+    → Delivers (moment middle out) (moment after printed) product ending → Causes words (moment before out) (moment after printed) ending
+finishes words before middle after out printed product (Done finding) made keeps later done = (product, made, rw keeps.same at done)
+finishes words before middle after out printed product (Write name) made keeps later done =
+    (product, made, ((rw keeps.same at done.0), done.1, then_rises before.faults middle.faults after.faults keeps.later later done.2))
+finishes words before middle after out printed product Output made keeps later done =
+    (product, made, (rw keeps.same at done.0, done.1, done.2))
+finishes words before middle after out printed product other made keeps later done = absurd done

@@ -8,7 +8,7 @@ use Rattle.rule_core.specs.Terms.{StampedOf}
 use Rattle.rule_core.specs.Validity.{IsRelation}
 use Rattle.temporal_csv.specs.Table.{IsTable, IsFact}
 use Rattle.exchange_engine.specs.Loading.{AreTablesOf, cell_count}
-use Rattle.exchange_cli.specs.Target.{SourceTable}
+use Rattle.exchange_cli.specs.Inputs.{SourceTable}
 use Rattle.exchange_cli.proofs.ListLemmas.{all_zip_at}
 
 -- each row has a cell for each column of the relation

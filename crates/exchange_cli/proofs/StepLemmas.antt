@@ -1,179 +1,255 @@
 -- Where a run stops before its first store.
-use Rattle.std.proofs.Common.{◌≡◌, ℕ, ◌-◌, List, [], ◌∷◌, ◌++◌, length, refl, ◌∙◌, subst, inl, inr, arith, IfSome, append_assoc, append-nil}
+use Rattle.std.proofs.Common.{◌≡◌, ℕ, ◌-◌, List, [], ◌∷◌, ◌++◌, refl, sym, ◌∙◌, subst, inl, inr, arith, append_assoc, append-nil}
+use Rattle.std.specs.Prelude.{Ok, Err, All}
 use Rattle.std.specs.declared.option.Option.{Option}
 use Rattle.std.specs.declared.option.Option.TheVariants.{None, Some}
+use Rattle.std.proofs.lemmas.List.Elements.{All-nil, All-cons, All-append}
 use Rattle.shelf_core.specs.Held.{Held}
+use Rattle.shelf_core.specs.Fetching.{Shows}
+use Rattle.shelf_core.specs.declared.shelf.Fetched.TheVariants as fetched
+use Rattle.shelf_core.specs.declared.shelf.FetchError.TheVariants.{Failed}
 use Rattle.shelf_core.proofs.FaultLemmas.{then_rises}
 use Rattle.rule_core.specs.declared.rules.Relation.{Relation}
-use Rattle.decl_text.specs.declared.fault.MappingFault.{MappingFault}
 use Rattle.mapping_core.specs.Mapping.{Meaning as MappingValue}
-use Rattle.mapping_core.specs.Reading.{IsFirstFault as IsMappingFault}
-use Rattle.temporal_csv.specs.Table.{IsTable, IsFirstFault as IsTableFault}
-use Rattle.temporal_csv.specs.declared.fault.TableFault.{TableFault}
-use Rattle.exchange_cli.specs.Words.{Exchange}
+use Rattle.exchange_cli.specs.Words.{Command, origin_of}
 use Rattle.exchange_cli.specs.Names.{table_name}
-use Rattle.exchange_cli.specs.Built.{IsBuilt}
-use Rattle.exchange_cli.specs.Target.{SourceTable}
-use Rattle.exchange_cli.specs.Work.{Comes, Gives, FailsFirst, ReadsMapping, ReadsTables, Reads, ComesToTable, mapping_limit, tables_limit}
+use Rattle.exchange_cli.specs.Built.{Takes}
+use Rattle.exchange_cli.specs.Inputs.{SourceTable}
+use Rattle.exchange_cli.specs.Work.{Fetch, fetch_of, AreTold, ReadsTables, Stops, StopsAtTable, RefusesMapping, RefusesTable, mapping_limit, tables_limit}
 use Rattle.exchange_cli.specs.Run.{Device, device}
-use Rattle.exchange_cli.specs.Steps.{Keeps, FailsToFetch, StopsEarly, ReadsBuiltIn, ReadsTable, ComesIn}
+use Rattle.exchange_cli.specs.Steps.{Keeps, AnswersWith, AnswersMapping, AnswersTable, AnswersTables, AnswersAll, FailsToFetch, FailsToRead, HasMappingFault, IsCounted, StopsInTables, StopsEarly}
 use Rattle.exchange_cli.specs.declared.ending.Ending.{Ending}
 use Rattle.exchange_cli.specs.declared.ending.Ending.TheVariants.{Done, Words, Missing, TooLong, Mapping, NotBuilt, Table, Read, Write, Output, Memory}
 
--- a fetch that the run comes to, and that fails, is where the run stops
-pub fetch_stops : (content : Option Held) (faults : ℕ) (after : Device Held) (command : Exchange) (name : List ℕ) (limit : ℕ)
+-- the answer is what the shelf holds, where it tells
+abbrev Is : Option Held → Fetch → Type 0
+Is told fetch = Shows told fetch.name fetch.limit fetch.answer
+
+-- one fetch that is told
+pub one_told : (told : Option Held) (fetch : Fetch) → Shows told fetch.name fetch.limit fetch.answer → AreTold told (fetch ∷ [])
+one_told told fetch shows = All-cons (Is told) fetch [] shows (All-nil (Is told))
+
+-- a fetch that failed tells nothing
+shows_failure : (told : Option Held) (name : List ℕ) (limit : ℕ) → Shows told name limit (Err Failed)
+shows_failure None name limit = tt
+shows_failure (Some held) name limit = tt
+
+-- a fetch that fails is where the reading of what it gives fails
+pub fetch_stops : (content : Option Held) (faults : ℕ) (after : Device Held) (name : List ℕ) (limit : ℕ) (HasFault : List ℕ → Ending → Type 0)
     (ending : Ending)
-    → IfSome content (λ held. Comes held command name limit) → FailsToFetch (device content faults) after name limit ending
-    → StopsEarly (device content faults) after command ending
-fetch_stops None faults after command name limit (Missing about) comes fails = tt
-fetch_stops None faults after command name limit (TooLong about) comes fails = tt
-fetch_stops None faults after command name limit (Read about) comes fails = (tt, fails.1)
-fetch_stops (Some held) faults after command name limit (Missing about) comes fails = rw fails.0 (limit, comes, fails.1)
-fetch_stops (Some held) faults after command name limit (TooLong about) comes fails = rw fails.0 (limit, comes, fails.1)
-fetch_stops (Some held) faults after command name limit (Read about) comes fails = rw fails.0 ((limit, comes), fails.1)
-fetch_stops content faults after command name limit Memory comes fails = tt
-fetch_stops content faults after command name limit Done comes fails = fails
-fetch_stops content faults after command name limit Words comes fails = fails
-fetch_stops content faults after command name limit (Mapping fault) comes fails = absurd fails
-fetch_stops content faults after command name limit NotBuilt comes fails = absurd fails
-fetch_stops content faults after command name limit (Table about fault) comes fails = absurd fails
-fetch_stops content faults after command name limit (Write about) comes fails = fails
-fetch_stops content faults after command name limit Output comes fails = fails
+    → FailsToFetch (device content faults) after name limit ending → FailsToRead (device content faults) after name limit HasFault ending
+fetch_stops content faults after name limit HasFault (Missing about) fails =
+    inr (fetch_of name limit (Ok fetched.Missing), fails.1, record { named = refl; limited = refl; stops = (fails.0, refl) }, λ n e. absurd cc)
+fetch_stops content faults after name limit HasFault (TooLong about) fails =
+    inr (fetch_of name limit (Ok fetched.TooLong), fails.1, record { named = refl; limited = refl; stops = (fails.0, refl) }, λ n e. absurd cc)
+fetch_stops content faults after name limit HasFault (Read about) fails =
+    inr (
+      fetch_of name limit (Err Failed),
+      shows_failure content name limit,
+      record { named = refl; limited = refl; stops = (fails.0, refl) },
+      λ n e. fails.1,
+    )
+fetch_stops content faults after name limit HasFault Memory fails = inl refl
+fetch_stops content faults after name limit HasFault other fails = absurd fails
+
+-- what was answered has this fault
+pub fault_stops : (content : Option Held) (faults : ℕ) (after : Device Held) (name bytes : List ℕ) (limit : ℕ)
+    (HasFault : List ℕ → Ending → Type 0) (ending : Ending)
+    → AnswersWith content name limit bytes → Stops (fetch_of name limit (Ok (fetched.Bytes bytes))) HasFault ending
+    → ((about : List ℕ) → ¬ (ending ≡ Read about)) → FailsToRead (device content faults) after name limit HasFault ending
+fault_stops content faults after name bytes limit HasFault ending answers stops other =
+    inr (
+      fetch_of name limit (Ok (fetched.Bytes bytes)),
+      answers,
+      record { named = refl; limited = refl; stops = stops },
+      λ n e. absurd (other n e),
+    )
 
 -- ---- the mapping
 
--- the run comes to fetch its mapping
-pub comes_to_mapping : (content : Option Held) (command : Exchange)
-    → IfSome content (λ held. Comes held command command.mapping mapping_limit)
-comes_to_mapping None command = tt
-comes_to_mapping (Some held) command = inl (refl, refl)
+-- what stops for one cause stops for a wider one
+stops_weaker : (P Q : List ℕ → Ending → Type 0) → ((bytes : List ℕ) (ending : Ending) → P bytes ending → Q bytes ending)
+    → (fetch : Fetch) (ending : Ending) → Stops fetch P ending → Stops fetch Q ending
+stops_weaker P Q weaker fetch (Missing name) stops = stops
+stops_weaker P Q weaker fetch (TooLong name) stops = stops
+stops_weaker P Q weaker fetch (Read name) stops = stops
+stops_weaker P Q weaker fetch (Mapping fault) stops = (stops.0, stops.1, weaker stops.0 (Mapping fault) stops.2)
+stops_weaker P Q weaker fetch NotBuilt stops = (stops.0, stops.1, weaker stops.0 NotBuilt stops.2)
+stops_weaker P Q weaker fetch (Table name fault) stops = (stops.0, stops.1, weaker stops.0 (Table name fault) stops.2)
+stops_weaker P Q weaker fetch (Done finding) stops = (stops.0, stops.1, weaker stops.0 (Done finding) stops.2)
+stops_weaker P Q weaker fetch Words stops = (stops.0, stops.1, weaker stops.0 Words stops.2)
+stops_weaker P Q weaker fetch (Write name) stops = (stops.0, stops.1, weaker stops.0 (Write name) stops.2)
+stops_weaker P Q weaker fetch Output stops = (stops.0, stops.1, weaker stops.0 Output stops.2)
+stops_weaker P Q weaker fetch Memory stops = (stops.0, stops.1, weaker stops.0 Memory stops.2)
 
--- a mapping with a fault is where the run stops
-pub mapping_stops : (content : Option Held) (command : Exchange) (name bytes : List ℕ) (fault : MappingFault) → name ≡ command.mapping
-    → IfSome content (λ held. Gives held name mapping_limit bytes) → IsMappingFault bytes fault
-    → IfSome content (λ held. FailsFirst held command (Mapping fault))
-mapping_stops None command name bytes fault named gives faulty = tt
-mapping_stops (Some held) command name bytes fault named gives faulty = (bytes, rw named at gives, faulty)
+fault_refuses : (command : Command) (bytes : List ℕ) (ending : Ending) → HasMappingFault bytes ending → RefusesMapping command bytes ending
+fault_refuses command bytes (Mapping fault) faulty = faulty
+fault_refuses command bytes other faulty = absurd faulty
 
--- so is a mapping that is not of the form that is built
-pub not_built_stops : (content : Option Held) (command : Exchange) (mapping : MappingValue)
-    → IfSome content (λ held. ReadsMapping held command mapping) → ¬ (IsBuilt mapping.rules)
-    → IfSome content (λ held. FailsFirst held command NotBuilt)
-not_built_stops None command mapping reads other = tt
-not_built_stops (Some held) command mapping reads other = (mapping, reads, other)
+-- a mapping that can't be read is where the run stops
+pub mapping_stops : (before after : Device Held) (command : Command) (name : List ℕ) (ending : Ending) → name ≡ (origin_of command).mapping
+    → FailsToRead before after name mapping_limit HasMappingFault ending → StopsEarly before after command ending
+mapping_stops before after command name ending named (inl memory) = inl memory
+mapping_stops before after command name ending named (inr (fetch, shows, at, counted)) =
+    inr (
+      fetch ∷ [],
+      one_told before.content fetch shows,
+      (
+        fetch,
+        [],
+        refl,
+        inl (
+          refl,
+          record {
+            named = at.named ∙ named;
+            limited = at.limited;
+            stops = stops_weaker HasMappingFault (RefusesMapping command) (fault_refuses command) fetch ending at.stops;
+          },
+        ),
+      ),
+      counted,
+    )
 
--- a mapping that was read is of that form
-pub reads_built : (content : Option Held) (command : Exchange) (mapping : MappingValue)
-    → IfSome content (λ held. ReadsMapping held command mapping) → IsBuilt mapping.rules → ReadsBuiltIn content command mapping
-reads_built None command mapping reads built = tt
-reads_built (Some held) command mapping reads built = (reads, built)
+-- so is a mapping of a form that the command doesn't take
+pub not_built_stops : (before after : Device Held) (command : Command) (name : List ℕ) (mapping : MappingValue)
+    → name ≡ (origin_of command).mapping → AnswersMapping before.content name mapping_limit mapping → ¬ (Takes command mapping.rules)
+    → StopsEarly before after command NotBuilt
+not_built_stops before after command name mapping named (bytes, answers, is) other =
+    inr (
+      fetch_of name mapping_limit (Ok (fetched.Bytes bytes)) ∷ [],
+      one_told before.content (fetch_of name mapping_limit (Ok (fetched.Bytes bytes))) answers,
+      (
+        fetch_of name mapping_limit (Ok (fetched.Bytes bytes)),
+        [],
+        refl,
+        inl (refl, record { named = named; limited = refl; stops = (bytes, refl, (mapping, is, other)) }),
+      ),
+      λ n e. absurd cc,
+    )
 
--- ---- a table
+-- so is a table behind a mapping that is taken
+pub tables_stop : (before after : Device Held) (command : Command) (name prefix : List ℕ) (mapping : MappingValue) (ending : Ending)
+    → name ≡ (origin_of command).mapping → prefix ≡ (origin_of command).source
+    → AnswersMapping before.content name mapping_limit mapping → Takes command mapping.rules
+    → StopsInTables before after prefix mapping.rules.sources ending → StopsEarly before after command ending
+tables_stop before after command name prefix mapping ending named below (bytes, answers, is) takes (inl memory) = inl memory
+tables_stop before after command name prefix mapping ending named below (bytes, answers, is) takes (inr (fetches, told, stops, counted)) =
+    let fetch = fetch_of name mapping_limit (Ok (fetched.Bytes bytes)) in
+    inr (
+      fetch ∷ fetches,
+      All-cons (Is before.content) fetch fetches answers told,
+      (
+        fetch,
+        fetches,
+        refl,
+        inr (
+          mapping,
+          (bytes, (λ i. fetch_of (named i) mapping_limit (Ok (fetched.Bytes bytes))), is),
+          takes,
+          subst (λ p. StopsAtTable fetches p tables_limit mapping.rules.sources ending) below stops,
+        ),
+      ),
+      counted,
+    )
 
--- the run comes to fetch the table of a relation
-pub comes_to_table : (content : Option Held) (command : Exchange) (relation : Relation) (limit : ℕ) (name : List ℕ)
-    → name ≡ table_name command.source relation.name → ComesIn content command relation limit
-    → IfSome content (λ held. Comes held command name limit)
-comes_to_table None command relation limit name named comes = tt
-comes_to_table (Some held) command relation limit name named comes = inr (relation, named, comes)
-
--- a table with a fault is where the run stops
-pub table_stops : (content : Option Held) (command : Exchange) (relation : Relation) (limit : ℕ) (name bytes : List ℕ) (fault : TableFault)
-    → name ≡ table_name command.source relation.name → IfSome content (λ held. Gives held name limit bytes)
-    → IsTableFault relation.columns bytes fault → ComesIn content command relation limit
-    → IfSome content (λ held. FailsFirst held command (Table name fault))
-table_stops None command relation limit name bytes fault named gives faulty comes = tt
-table_stops (Some held) command relation limit name bytes fault named gives faulty comes =
-    (relation, limit, bytes, named, comes, gives, faulty)
-
--- a table that was read
-pub table_read : (content : Option Held) (prefix : List ℕ) (relation : Relation) (limit : ℕ) (name bytes : List ℕ) (facts : SourceTable)
-    → name ≡ table_name prefix relation.name → IfSome content (λ held. Gives held name limit bytes) → IsTable relation.columns bytes facts
-    → IfSome content (λ held. ReadsTable held prefix relation limit facts (length bytes))
-table_read None prefix relation limit name bytes facts named gives table = tt
-table_read (Some held) prefix relation limit name bytes facts named gives table = (bytes, rw named at gives, refl, table)
+-- all that the command needs was read
+pub reads_all : (told : Option Held) (command : Command) (name prefix : List ℕ) (mapping : MappingValue) (tables : List SourceTable)
+    → name ≡ (origin_of command).mapping → prefix ≡ (origin_of command).source
+    → AnswersMapping told name mapping_limit mapping → Takes command mapping.rules → AnswersTables told prefix mapping.rules.sources tables
+    → AnswersAll told command (record { mapping = mapping; tables = tables })
+reads_all told command name prefix mapping tables named below (bytes, answers, is) takes (fetches, each, reads) =
+    let fetch = fetch_of name mapping_limit (Ok (fetched.Bytes bytes)) in (
+      fetch ∷ fetches,
+      All-cons (Is told) fetch fetches answers each,
+      record {
+        read = record {
+          first = fetch;
+          later = fetches;
+          all = refl;
+          mapping = (bytes, (λ i. fetch_of (named i) mapping_limit (Ok (fetched.Bytes bytes))), is);
+          tables = subst (λ p. ReadsTables fetches p tables_limit mapping.rules.sources tables) below reads;
+        };
+        taken = takes;
+      },
+    )
 
 -- ---- the tables
 
--- from the tables that were read, the reading goes on with the relations that are left
-pub record GoesOn (held : Held) (prefix : List ℕ) (relations rest : List Relation) (tables : List SourceTable) (left : ℕ) : Type 0 where
-  pub reads : (later : List SourceTable) → ReadsTables held prefix left rest later
-      → ReadsTables held prefix tables_limit relations (tables ++ later)
-  pub comes : (relation : Relation) (limit : ℕ) → ComesToTable held prefix left rest relation limit
-      → ComesToTable held prefix tables_limit relations relation limit
+-- from the tables that these fetches gave, the work goes on with the relations that are left
+pub record GoesOn (fetches : List Fetch) (prefix : List ℕ) (relations rest : List Relation) (tables : List SourceTable) (left : ℕ) : Type 0 where
+  pub reads : (later : List Fetch) (others : List SourceTable) → ReadsTables later prefix left rest others
+      → ReadsTables (fetches ++ later) prefix tables_limit relations (tables ++ others)
+  pub stops : (later : List Fetch) (ending : Ending) → StopsAtTable later prefix left rest ending
+      → StopsAtTable (fetches ++ later) prefix tables_limit relations ending
 
--- the same, where the shelf tells what it holds
+-- the same, for some fetches that are told
 abbrev pub GoesOnIn : Option Held → List ℕ → List Relation → List Relation → List SourceTable → ℕ → Type 0
-GoesOnIn told prefix relations rest tables left = IfSome told (λ held. GoesOn held prefix relations rest tables left)
+GoesOnIn told prefix relations rest tables left =
+    (fetches : List Fetch) × AreTold told fetches × GoesOn fetches prefix relations rest tables left
 
 pub goes_on_first : (told : Option Held) (prefix : List ℕ) (relations : List Relation)
     → GoesOnIn told prefix relations relations [] tables_limit
-goes_on_first None prefix relations = tt
-goes_on_first (Some held) prefix relations = record { reads = λ later reads. reads; comes = λ relation limit comes. comes }
+goes_on_first told prefix relations =
+    ([], All-nil (Is told), record { reads = λ later others reads. reads; stops = λ later ending stops. stops })
 
 -- one more table
 pub goes_on_more : (told : Option Held) (prefix : List ℕ) (relations rest : List Relation) (relation : Relation)
     (tables : List SourceTable) (left size : ℕ) (facts : SourceTable)
-    → GoesOnIn told prefix relations (relation ∷ rest) tables left
-    → IfSome told (λ held. ReadsTable held prefix relation left facts size)
+    → GoesOnIn told prefix relations (relation ∷ rest) tables left → AnswersTable told prefix relation left size facts
     → GoesOnIn told prefix relations rest (tables ++ facts ∷ []) (left - size)
-goes_on_more None prefix relations rest relation tables left size facts before read = tt
-goes_on_more (Some held) prefix relations rest relation tables left size facts before read = record {
-  reads = λ later reads.
-      rw (append_assoc tables (facts ∷ []) later) (before.reads (facts ∷ later)
-      (read.0, facts, later, read.1, read.3, refl, subst (λ n. ReadsTables held prefix (left - n) rest later) read.2 reads));
-  comes = λ next limit comes.
-      before.comes next limit (inr (
-        read.0,
-        facts,
-        read.1,
-        read.3,
-        subst (λ n. ComesToTable held prefix (left - n) rest next limit) read.2 comes,
-      ));
-}
+goes_on_more told prefix relations rest relation tables left size facts (fetches, each, goes) (bytes, answers, sized, table) =
+    let fetch = fetch_of (table_name prefix relation.name) left (Ok (fetched.Bytes bytes)) in (
+      fetches ++ fetch ∷ [],
+      All-append (Is told) fetches (fetch ∷ []) each (one_told told fetch answers),
+      record {
+        reads = λ later others reads.
+            rw (append_assoc fetches (fetch ∷ []) later, append_assoc tables (facts ∷ []) others)
+            (goes.reads (fetch ∷ later) (facts ∷ others)
+            (fetch, later, size, facts, others, refl, (bytes, refl, sized, table), refl, reads));
+        stops = λ later ending stops.
+            rw (append_assoc fetches (fetch ∷ []) later)
+            (goes.stops (fetch ∷ later) ending (fetch, later, refl, inr (size, facts, (bytes, refl, sized, table), stops)));
+      },
+    )
 
 -- all tables were read
 pub goes_on_last : (told : Option Held) (prefix : List ℕ) (relations : List Relation) (tables : List SourceTable) (left : ℕ)
-    → GoesOnIn told prefix relations [] tables left
-    → IfSome told (λ held. ReadsTables held prefix tables_limit relations tables)
-goes_on_last None prefix relations tables left before = tt
-goes_on_last (Some held) prefix relations tables left before =
-    subst (λ (all : List SourceTable). ReadsTables held prefix tables_limit relations all) (append-nil tables) (before.reads [] refl)
-
--- the run comes to the next table
-pub comes_next : (told : Option Held) (command : Exchange) (mapping : MappingValue) (rest : List Relation) (relation : Relation)
-    (tables : List SourceTable) (left : ℕ)
-    → GoesOnIn told command.source mapping.rules.sources (relation ∷ rest) tables left → ReadsBuiltIn told command mapping
-    → ComesIn told command relation left
-comes_next None command mapping rest relation tables left goes built = tt
-comes_next (Some held) command mapping rest relation tables left goes built =
-    (mapping, built, goes.comes relation left (inl (refl, refl)))
-
--- all that the command needs was read
-pub reads_all : (content : Option Held) (command : Exchange) (mapping : MappingValue) (tables : List SourceTable)
-    → IfSome content (λ held. ReadsMapping held command mapping) → IsBuilt mapping.rules
-    → IfSome content (λ held. ReadsTables held command.source tables_limit mapping.rules.sources tables)
-    → IfSome content (λ held. Reads held command (record { mapping = mapping; tables = tables }))
-reads_all None command mapping tables first built rest = tt
-reads_all (Some held) command mapping tables first built rest = record { mapping = (first, built); tables = rest }
+    → GoesOnIn told prefix relations [] tables left → AnswersTables told prefix relations tables
+goes_on_last told prefix relations tables left (fetches, each, goes) =
+    let read : ReadsTables (fetches ++ []) prefix tables_limit relations (tables ++ []) = goes.reads [] [] (refl, refl) in (
+      fetches,
+      each,
+      subst (λ (f : List Fetch). ReadsTables f prefix tables_limit relations tables) (append-nil fetches)
+          (subst (λ (all : List SourceTable). ReadsTables (fetches ++ []) prefix tables_limit relations all) (append-nil tables) read),
+    )
 
 -- ---- several calls of one shelf
 
 pub keeps_both : (a b c : Device Held) → Keeps a b → Keeps b c → Keeps a c
 keeps_both a b c first second = record { same = second.same ∙ first.same; later = omega (arith, first.later, second.later) }
 
--- a run that stops in a later call stops so since the first
-pub stops_since : (a b c : Device Held) (command : Exchange) (ending : Ending) → Keeps a b → Keeps b c
-    → StopsEarly b c command ending → StopsEarly a c command ending
-stops_since a b c command (Missing name) first second stops = rw first.same at stops
-stops_since a b c command (TooLong name) first second stops = rw first.same at stops
-stops_since a b c command (Mapping fault) first second stops = rw first.same at stops
-stops_since a b c command NotBuilt first second stops = rw first.same at stops
-stops_since a b c command (Table name fault) first second stops = rw first.same at stops
-stops_since a b c command (Read name) first second stops =
-    (rw first.same at stops.0, then_rises a.faults b.faults c.faults first.later second.later stops.1)
-stops_since a b c command Memory first second stops = tt
-stops_since a b c command Done first second stops = stops
-stops_since a b c command Words first second stops = stops
-stops_since a b c command (Write name) first second stops = stops
-stops_since a b c command Output first second stops = stops
+-- a count that rose in a later call rose since the first
+counted_since : (a b c : Device Held) (ending : Ending) → Keeps a b → Keeps b c → IsCounted b c ending → IsCounted a c ending
+counted_since a b c ending first second counted = λ name is.
+    then_rises a.faults b.faults c.faults first.later second.later (counted name is)
+
+-- the next table is where the tables stop, since the first call
+pub table_stops : (a b c : Device Held) (prefix : List ℕ) (relations rest : List Relation) (relation : Relation) (tables : List SourceTable)
+    (left : ℕ) (ending : Ending) → Keeps a b → Keeps b c → GoesOnIn a.content prefix relations (relation ∷ rest) tables left
+    → FailsToRead b c (table_name prefix relation.name) left (RefusesTable prefix relation) ending
+    → StopsInTables a c prefix relations ending
+table_stops a b c prefix relations rest relation tables left ending first second goes (inl memory) = inl memory
+table_stops a b c prefix relations rest relation tables left ending first second (fetches, each, goes) (inr (fetch, shows, at, counted)) =
+    inr (
+      fetches ++ fetch ∷ [],
+      All-append (Is a.content) fetches (fetch ∷ []) each (one_told a.content fetch (rw (sym first.same) shows)),
+      goes.stops (fetch ∷ []) ending (fetch, [], refl, inl (refl, at)),
+      counted_since a b c ending first second counted,
+    )
+
+-- tables that stop in a later call stop so since the first
+pub stops_since : (a b c : Device Held) (prefix : List ℕ) (relations : List Relation) (ending : Ending) → Keeps a b → Keeps b c
+    → StopsInTables b c prefix relations ending → StopsInTables a c prefix relations ending
+stops_since a b c prefix relations ending first second (inl memory) = inl memory
+stops_since a b c prefix relations ending first second (inr (fetches, told, stops, counted)) =
+    inr (fetches, rw (sym first.same) told, stops, counted_since a b c ending first second counted)

@@ -25,13 +25,11 @@ use Rattle.rule_core.specs.Rebase.{renumbered, IsRebased}
 use Rattle.rule_core.specs.Renaming.{Renaming, renamed_term, renamed_facts, HoldTheSame, IsRuleConstant, HasUnknown, AreToldApart}
 use Rattle.mapping_core.specs.Mapping.{HasItsConstants}
 use Rattle.fact_table.specs.declared.fact.Fact.{Fact}
-use Rattle.fact_table.specs.Rows.{rows_of}
-use Rattle.fact_table.specs.Snapshots.{with_terms}
-use Rattle.body_match.specs.Snapshots as shown
-use Rattle.fact_table.specs.Snapshots.{snapshot_of}
+use Rattle.fact_table.specs.Snapshots.{snapshot_of, stamped_facts, with_terms}
 use Rattle.exchange_engine.specs.Loading.{LoadedOf, HasEachConstant, AreFactsOf}
 use Rattle.exchange_engine.specs.Solved.{TermTable, AreCoalesced, AreUniversal, AreUnknownsOf, IsTermWithin, AreWithinPool}
-use Rattle.exchange_cli.specs.Target.{Inputs, IsTarget, name_of, source_of}
+use Rattle.exchange_cli.specs.Inputs.{Inputs, name_of, source_of}
+use Rattle.exchange_cli.specs.Target.{IsTarget}
 use Rattle.exchange_cli.specs.Rendering.{stored_term, stored_table}
 use Rattle.exchange_cli.proofs.StoredOrderLemmas.{IsStorable, rows_cmp}
 use Rattle.exchange_cli.proofs.FactTextLemmas.{retold, IsIn, snapshot_retold, term_of_fact, source_holds_the_same}
@@ -71,7 +69,7 @@ module _ (inputs : Inputs) (loaded : LoadedOf) (tables : List TermTable) (nulls 
     → stored_cmp (told a.row) (told b.row) ≡ slice_cmp term_cmp a.row b.row)
     → IsCoalesced (slice_cmp term_cmp) list
     → IsCoalesced stored_cmp (map (λ e. record { row = told e.row; span = e.span }) list))
-    (listed : (table : List Fact) → shown.facts_of (rows_of table) ≡ map with_terms table) where
+    (listed : (table : List Fact) → stamped_facts table ≡ map with_terms table) where
   -- each term of the tables has a text or a number
   storable : (x : Term) → IsIn tables x → IsStorable loaded.pool nulls x
   storable (Const c) there =

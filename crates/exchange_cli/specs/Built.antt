@@ -1,7 +1,8 @@
--- The form of mapping that is built so far.
+-- The form of mapping that each command is built for so far.
 use Rattle.rule_core.specs.Mapping.{RuleSet}
 use Rattle.exchange_engine.specs.Solved.{IsPlain}
+use Rattle.exchange_cli.specs.Words.{Command, Exchange}
 
--- no egd and no query
-abbrev pub IsBuilt : RuleSet → Type 0
-IsBuilt rules = IsPlain rules
+-- the command takes the mapping: an exchange takes one with no egd and no query
+abbrev pub Takes : Command → RuleSet → Type 0
+Takes (Exchange origin target) rules = IsPlain rules

@@ -1,7 +1,12 @@
 -- How the program holds a command. No public clause cites this module.
-use Rattle.exchange_cli.specs.declared.command.Exchange.{Exchange as Lent}
-use Rattle.exchange_cli.specs.Words.{Exchange}
+use Rattle.exchange_cli.specs.declared.command.Origin.{Origin as LentOrigin}
+use Rattle.exchange_cli.specs.declared.command.Command.{Command as Lent}
+use Rattle.exchange_cli.specs.declared.command.Command.TheVariants as lent
+use Rattle.exchange_cli.specs.Words.{Origin, Command, Exchange}
 
 -- the words that it borrows
-abbrev pub command_of : Lent → Exchange
-command_of lent = record { mapping = lent.mapping.now; source = lent.source.now; target = lent.target.now }
+abbrev pub lent_origin : LentOrigin → Origin
+lent_origin origin = record { mapping = origin.mapping.now; source = origin.source.now }
+
+abbrev pub command_of : Lent → Command
+command_of (lent.Exchange origin target) = Exchange (lent_origin origin) target.now

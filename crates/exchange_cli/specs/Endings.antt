@@ -1,12 +1,18 @@
--- The status and the line of each ending.
-use Rattle.std.specs.Prelude.{ℕ, List, [], ◌∷◌, ◌++◌, codes}
+-- The status and the lines of each ending.
+use Rattle.std.specs.Prelude.{◌≡◌, ◌⊎◌, ℕ, List, [], ◌∷◌, ◌++◌, codes}
+use Rattle.exchange_cli.specs.declared.ending.Finding.{Finding}
+use Rattle.exchange_cli.specs.declared.ending.Finding.TheVariants.{Solved}
 use Rattle.exchange_cli.specs.declared.ending.Ending.{Ending}
 use Rattle.exchange_cli.specs.declared.ending.Ending.TheVariants.{Done, Words, Missing, TooLong, Mapping, NotBuilt, Table, Read, Write, Output, Memory}
 use Rattle.exchange_cli.specs.FaultTexts.{mapping_fault, table_fault}
 
+-- the answer of the program where all was done, by what was found
+abbrev pub status_found : Finding → ℕ
+status_found Solved = 0
+
 -- the answer of the program
 abbrev pub status_of : Ending → ℕ
-status_of Done = 0
+status_of (Done finding) = status_found finding
 status_of Words = 5
 status_of (Missing name) = 1
 status_of (TooLong name) = 1
@@ -18,13 +24,29 @@ status_of (Write name) = 3
 status_of Output = 3
 status_of Memory = 4
 
+-- the statuses of a run that came to its end: it is done, or some instant has no solution
+abbrev pub IsDone : ℕ → Type 0
+IsDone status = (status ≡ 0) ⊎ (status ≡ 2)
+
+-- the statuses of a run that was refused, or for which there was no memory
+abbrev pub IsRefused : ℕ → Type 0
+IsRefused status = (status ≡ 1) ⊎ ((status ≡ 4) ⊎ (status ≡ 5))
+
 -- a text as a line
 abbrev pub line : List ℕ → List ℕ
 line text = text ++ 10 ∷ []
 
+-- what the verdict of a solved exchange holds
+abbrev pub solved : List ℕ
+solved = line (codes "solved")
+
+-- what is printed on the standard output, by what was found
+abbrev pub printed_of : Finding → List ℕ
+printed_of Solved = solved
+
 -- what is said of an ending on the standard error
 abbrev pub line_of : Ending → List ℕ
-line_of Done = []
+line_of (Done finding) = []
 line_of Words = line (codes "refused: words")
 line_of (Missing name) = line (codes "refused: missing " ++ name)
 line_of (TooLong name) = line (codes "refused: too long " ++ name)

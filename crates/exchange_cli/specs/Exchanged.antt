@@ -6,7 +6,7 @@ use Rattle.mapping_core.specs.Mapping.{HasItsConstants}
 use Rattle.exchange_engine.specs.Loading.{LoadedOf, HasEachConstant, AreFactsOf}
 use Rattle.exchange_engine.specs.Solved.{AreTargetTables, AreCoalesced, AreUniversal, AreWithinPool, AreUnknownsOf}
 use Rattle.exchange_engine.specs.declared.outcome.Solved.{Solved}
-use Rattle.exchange_cli.specs.Target.{Inputs}
+use Rattle.exchange_cli.specs.Inputs.{Inputs}
 
 -- what is loaded of what was read: the same mapping by the numbers of a pool, and the same facts
 pub record IsLoadedFrom (inputs : Inputs) (loaded : LoadedOf) : Type 0 where

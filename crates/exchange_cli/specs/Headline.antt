@@ -1,49 +1,120 @@
--- The clauses under the headline, for the words `exchange MAPPING SOURCE TARGET`.
-use Rattle.std.specs.Prelude.{◌≡◌, ◌≢◌, ◌↔◌, ◌⊎◌, ℕ, List, Some}
+-- The clauses under the headline: what is promised of every command, and then of each.
+use Rattle.std.specs.Prelude.{◌≡◌, ◌≢◌, ◌⊎◌, ℕ, ℤ, List, Some}
 use Rattle.shelf_core.specs.Held.{Held}
 use Rattle.shelf_core.specs.Faults.{Rises}
 use Rattle.shelf_core.specs.Texts.{Appends, AppendsPrefix}
-use Rattle.rule_core.specs.Solution.{HasSolution}
-use Rattle.exchange_cli.specs.Words.{Exchange, AreExchange}
-use Rattle.exchange_cli.specs.Target.{Inputs, AreSolvedFiles, name_of, source_of, solved}
-use Rattle.exchange_cli.specs.Work.{Reads}
-use Rattle.exchange_cli.specs.Run.{Device, Moment, with_files, Untouched}
-use Rattle.exchange_cli.specs.declared.file.FileOut.{FileOut}
+use Rattle.term_core.specs.declared.const_id.ConstId.{ConstId}
+use Rattle.rule_core.specs.Mapping.{RuleSet}
+use Rattle.rule_core.specs.Terms.{FactOf, StampedOf}
+use Rattle.rule_core.specs.Snapshot.{snapshot_at}
+use Rattle.rule_core.specs.Solution.{HasSolution, IsSolution}
+use Rattle.exchange_cli.specs.Words.{Command, Exchange, Origin, Spells, SpellsNone}
+use Rattle.exchange_cli.specs.Inputs.{Inputs, name_of, source_of}
+use Rattle.exchange_cli.specs.Files.{SolvedFiles, AreSolvedFiles, in_order}
+use Rattle.exchange_cli.specs.Product.{Makes, IsFindingOf, IsOwnStatus}
+use Rattle.exchange_cli.specs.Endings.{IsDone, IsRefused, status_of, status_found, line_of, printed_of}
+use Rattle.exchange_cli.specs.Work.{Fetch, AreTold, Reads, FailsFirst}
+use Rattle.exchange_cli.specs.Run.{Device, Moment, with_files, Untouched, Stores, Delivers, IsMadeFor, Says}
+use Rattle.exchange_cli.specs.declared.product.Product.{Product}
+use Rattle.exchange_cli.specs.declared.ending.Finding.{Finding}
+use Rattle.exchange_cli.specs.declared.ending.Ending.{Ending}
+use Rattle.exchange_cli.specs.declared.ending.Ending.TheVariants.{Words, Read, Write, Output}
 
--- the premises: the shelf tells what it holds, the command reads all that it needs there, and neither memory nor the
--- shelf nor the output failed in this call
-pub record IsUnhindered (words : List (List ℕ)) (before after : Moment) (status : ℕ) (command : Exchange) (held : Held)
+-- ---- every command
+
+-- words that spell no command: nothing was fetched, stored or printed, and that is said
+pub record WordsClause (words : List (List ℕ)) (before after : Moment) (err err_after : Device (List ℕ)) (status : ℕ) : Type 0 where
+  pub answer : SpellsNone words → status ≡ 5
+  pub same : SpellsNone words → after ≡ before
+  pub line : SpellsNone words → Says err err_after (line_of Words)
+
+-- words that spell a command: it is refused, a fault or want of memory ends it, or it ends with a status of its own
+abbrev pub AnswerClause : List (List ℕ) → ℕ → Type 0
+AnswerClause words status = (command : Command) → Spells words command
+    → IsOwnStatus command status ⊎ ((status ≡ 1) ⊎ ((status ≡ 3) ⊎ (status ≡ 4)))
+
+-- where the shelf tells what it holds, what it holds fails first so, and neither memory nor the shelf failed in this call: the
+-- status and the line are those of this failure, and nothing was stored or printed
+abbrev pub RefusalClause : List (List ℕ) → Moment → Moment → Device (List ℕ) → Device (List ℕ) → ℕ → Type 0
+RefusalClause words before after err err_after status =
+    (command : Command) (held : Held) (fetches : List Fetch) (ending : Ending)
+    → Spells words command → before.shelf.content ≡ Some held → AreTold (Some held) fetches → FailsFirst command fetches ending
+    → ((name : List ℕ) → ending ≢ Read name) → status ≢ 4 → ¬ (Rises before.shelf.faults after.shelf.faults)
+    → (status ≡ status_of ending) × Untouched before after × Says err err_after (line_of ending)
+
+-- the premises of the clauses that follow: the shelf tells what it holds, the command reads all that it needs there, and
+-- neither memory nor the shelf nor the output failed in this call
+pub record IsUnhindered (words : List (List ℕ)) (before after : Moment) (status : ℕ) (command : Command) (held : Held)
     (inputs : Inputs) : Type 0 where
-  pub spelled : AreExchange words command
+  pub spelled : Spells words command
   pub told : before.shelf.content ≡ Some held
-  pub reads : Reads held command inputs
+  pub fetches : List Fetch
+  pub each : AreTold (Some held) fetches
+  pub reads : Reads command fetches inputs
   pub memory : status ≢ 4
   pub shelf : ¬ (Rises before.shelf.faults after.shelf.faults)
   pub out : ¬ (Rises before.out.faults after.out.faults)
 
--- the status is 5 exactly where the words are no command's
-abbrev pub WordsClause : List (List ℕ) → ℕ → Type 0
-WordsClause words status = (status ≡ 5) ↔ ((command : Exchange) → ¬ (AreExchange words command))
+-- a product of the command was delivered: the shelf holds what it held, with exactly its files set, its line is printed, and
+-- the status is that of what was found, which is one of the command's own
+pub record Completes (before after : Moment) (status : ℕ) (command : Command) (held : Held) (inputs : Inputs) : Type 0 where
+  pub product : Product
+  pub made : Makes command inputs product
+  pub found : IsFindingOf command product.finding
+  pub answer : status ≡ status_found product.finding
+  pub stored : after.shelf.content ≡ Some (with_files held product.files)
+  pub printed : Appends before.out.content after.out.content product.line
 
--- the status is 0 exactly where the mapping has a solution for the source
+-- unhindered, a run comes to its end
+abbrev pub CompletesClause : List (List ℕ) → Moment → Moment → ℕ → Type 0
+CompletesClause words before after status =
+    (command : Command) (held : Held) (inputs : Inputs) → IsUnhindered words before after status command held inputs
+    → Completes before after status command held inputs
+
+-- a line by which a command of these words says what it found
+abbrev pub IsLineOf : List (List ℕ) → ℕ → List ℕ → Type 0
+IsLineOf words status line =
+    (command : Command) × (finding : Finding) × Spells words command × IsFindingOf command finding
+    × (status ≡ status_found finding) × (line ≡ printed_of finding)
+
+-- after 0 and 2 the line of what was found is printed; after 3 a first part of such a line may be; after 1, 4 and 5 nothing is
+pub record OutputClause (words : List (List ℕ)) (before after : Device (List ℕ)) (status : ℕ) : Type 0 where
+  pub done : IsDone status → (line : List ℕ) × IsLineOf words status line × Appends before.content after.content line
+  pub failed : status ≡ 3 → (after ≡ before)
+      ⊎ ((own : ℕ) × (line : List ℕ) × IsLineOf words own line × AppendsPrefix before.content after.content line
+      × Rises before.faults after.faults)
+  pub refused : IsRefused status → after ≡ before
+
+-- what the shelf holds at the end: after 0 and 2 what it held, with exactly the files of a product of the command set; after 3
+-- what it held where a fetch failed, all those files where the output failed, and the files before the one whose store failed;
+-- after 1, 4 and 5 what it held
+pub record StoreClause (words : List (List ℕ)) (before after : Moment) (status : ℕ) : Type 0 where
+  pub done : IsDone status → (product : Product) × IsMadeFor words before product × (status ≡ status_found product.finding)
+      × Stores before.shelf after.shelf product.files
+  pub failed : status ≡ 3 → (Untouched before after × Rises before.shelf.faults after.shelf.faults)
+      ⊎ ((product : Product) × IsMadeFor words before product
+      × (Delivers before after product Output ⊎ ((name : List ℕ) × Delivers before after product (Write name))))
+  pub refused : IsRefused status → Untouched before after
+
+-- ---- `exchange MAPPING SOURCE TARGET`
+
+-- some instant of the source has no solution
+abbrev pub HasNoSolution : (ConstId → List ℕ) → RuleSet → List (StampedOf (FactOf (List ℕ))) → Type 0
+HasNoSolution name rules source =
+    (t : ℤ) × ((target : List (FactOf (List ℕ))) → ¬ (IsSolution name rules (snapshot_at source t) target))
+
+-- the status is 0 and the mapping has a solution for the source at every instant, or it is 2 and some instant has none
 abbrev pub StatusClause : List (List ℕ) → Moment → Moment → ℕ → Type 0
 StatusClause words before after status =
-    (command : Exchange) (held : Held) (inputs : Inputs) → IsUnhindered words before after status command held inputs
-    → (status ≡ 0) ↔ HasSolution (name_of inputs) inputs.mapping.rules (source_of inputs)
+    (origin : Origin) (target : List ℕ) (held : Held) (inputs : Inputs)
+    → IsUnhindered words before after status (Exchange origin target) held inputs
+    → ((status ≡ 0) × HasSolution (name_of inputs) inputs.mapping.rules (source_of inputs))
+    ⊎ ((status ≡ 2) × HasNoSolution (name_of inputs) inputs.mapping.rules (source_of inputs))
 
--- after 0 the shelf holds what it held, with exactly the files of the solved exchange set: the target's tables are
--- coalesced, and at every instant they are a solution that maps into every solution
+-- after 0 the shelf holds what it held, with exactly the files of a solved exchange set: the target's tables are coalesced, and
+-- at every instant they are a solution that maps into every solution
 abbrev pub TargetClause : List (List ℕ) → Moment → Moment → ℕ → Type 0
 TargetClause words before after status =
-    (command : Exchange) (held : Held) (inputs : Inputs) → IsUnhindered words before after status command held inputs → status ≡ 0
-    → (files : List FileOut) × AreSolvedFiles inputs command.target files × (after.shelf.content ≡ Some (with_files held files))
-
--- after 0 the line is printed; after 3 a first part of it may be; after every other status nothing is
-pub record OutputClause (before after : Device (List ℕ)) (status : ℕ) : Type 0 where
-  pub done : status ≡ 0 → Appends before.content after.content solved
-  pub failed : status ≡ 3 → (after ≡ before) ⊎ (AppendsPrefix before.content after.content solved × Rises before.faults after.faults)
-  pub refused : status ≢ 0 → status ≢ 3 → after ≡ before
-
--- after a refusal or for want of memory the shelf holds what it held
-abbrev pub StoreClause : Moment → Moment → ℕ → Type 0
-StoreClause before after status = status ≢ 0 → status ≢ 3 → Untouched before after
+    (origin : Origin) (target : List ℕ) (held : Held) (inputs : Inputs)
+    → IsUnhindered words before after status (Exchange origin target) held inputs → status ≡ 0
+    → (files : SolvedFiles) × AreSolvedFiles inputs target files × (after.shelf.content ≡ Some (with_files held (in_order files)))

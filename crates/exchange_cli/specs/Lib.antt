@@ -4,9 +4,12 @@ pub mod Names
 pub mod FaultTexts
 pub mod Endings
 pub mod Built
+pub mod Inputs
 pub mod Target
 pub mod Rendering
 pub mod Exchanged
+pub mod Files
+pub mod Product
 pub mod Work
 pub mod Run
 pub mod Headline

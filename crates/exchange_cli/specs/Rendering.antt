@@ -1,5 +1,5 @@
 -- How a target is written: each constant as its text, and each unknown by its number.
-use Rattle.std.specs.Prelude.{◌≡◌, ℕ, ◌+◌, List, [], ◌∷◌, ◌++◌, map, count_by}
+use Rattle.std.specs.Prelude.{◌≡◌, ℕ, ◌+◌, List, map, count_by}
 use Rattle.std.specs.Ordering.{is_lt}
 use Rattle.term_core.specs.declared.term.Unknown.{Unknown as HeldUnknown}
 use Rattle.term_core.specs.declared.term.Term.{Term}
@@ -9,8 +9,9 @@ use Rattle.rule_core.specs.declared.rules.Relation.{Relation}
 use Rattle.rule_core.specs.Terms.{numbered, TermOf, constant, unknown}
 use Rattle.exchange_engine.specs.Loading.{text_in}
 use Rattle.exchange_engine.specs.Solved.{TermTable}
-use Rattle.exchange_cli.specs.Names.{verdict_name}
-use Rattle.exchange_cli.specs.Target.{TargetTable, AreTableFiles, solved}
+use Rattle.exchange_cli.specs.Target.{TargetTable, AreTableFiles}
+use Rattle.exchange_cli.specs.Endings.{solved}
+use Rattle.exchange_cli.specs.Files.{SolvedFiles, IsVerdict, in_order}
 use Rattle.exchange_cli.specs.declared.file.FileOut.{FileOut}
 
 -- the number of an unknown among those of a target: its place in their order, counted from 1
@@ -29,6 +30,7 @@ stored_table pool nulls table = map (λ e. record { row = map (stored_term pool 
 -- the tables of the relations as files, in their order, and then the verdict
 pub record AreRendered (pool : List (List ℕ)) (nulls : List HeldUnknown) (relations : List Relation) (tables : List TermTable)
     (prefix : List ℕ) (files : List FileOut) : Type 0 where
-  pub stored : List FileOut
-  pub named : AreTableFiles prefix relations stored (map (stored_table pool nulls) tables)
-  pub all : files ≡ stored ++ record { name = verdict_name prefix; bytes = solved } ∷ []
+  pub groups : SolvedFiles
+  pub named : AreTableFiles prefix relations groups.tables (map (stored_table pool nulls) tables)
+  pub verdict : IsVerdict prefix solved groups.verdict
+  pub all : files ≡ in_order groups

@@ -1,15 +1,17 @@
 -- What a run does, from its call to its end.
-use Rattle.std.specs.Prelude.{◌≡◌, ℕ, List, [], ◌∷◌, ◌++◌, ◌⊎◌, Option, IfSome}
+use Rattle.std.specs.Prelude.{◌≡◌, ℕ, List, [], ◌∷◌, ◌++◌, ◌⊎◌, Option}
 use Rattle.std.specs.Option.{option_map}
 use Rattle.std.specs.FinMap.{insert}
 use Rattle.shelf_core.specs.Held.{Held, OthersStay}
 use Rattle.shelf_core.specs.Faults.{Rises}
 use Rattle.shelf_core.specs.Texts.{Appends, AppendsPrefix}
-use Rattle.exchange_cli.specs.Words.{Exchange, AreExchange}
+use Rattle.exchange_cli.specs.Words.{Command, Spells, SpellsNone}
 use Rattle.exchange_cli.specs.Endings.{status_of, line_of}
-use Rattle.exchange_cli.specs.Target.{Inputs, AreSolvedFiles, solved}
-use Rattle.exchange_cli.specs.Work.{Reads, FailsFirst}
+use Rattle.exchange_cli.specs.Inputs.{Inputs}
+use Rattle.exchange_cli.specs.Product.{Makes}
+use Rattle.exchange_cli.specs.Work.{Fetch, AreTold, Reads, FailsFirst}
 use Rattle.exchange_cli.specs.declared.file.FileOut.{FileOut}
+use Rattle.exchange_cli.specs.declared.product.Product.{Product}
 use Rattle.exchange_cli.specs.declared.ending.Ending.{Ending}
 use Rattle.exchange_cli.specs.declared.ending.Ending.TheVariants.{Done, Words, Missing, TooLong, Mapping, NotBuilt, Table, Read, Write, Output, Memory}
 
@@ -53,34 +55,41 @@ StoresUpTo before after files name =
     (earlier : List FileOut) × (file : FileOut) × (later : List FileOut) × (files ≡ earlier ++ file ∷ later) × (name ≡ file.name)
     × OthersStay (option_map (λ held. with_files held earlier) before.content) after.content name
 
--- what is stored and printed of these files, by the ending
-abbrev pub Delivers : Moment → Moment → List FileOut → Ending → Type 0
-Delivers before after files Done = Stores before.shelf after.shelf files × Appends before.out.content after.out.content solved
-Delivers before after files (Write name) =
-    StoresUpTo before.shelf after.shelf files name × (after.out ≡ before.out) × Rises before.shelf.faults after.shelf.faults
-Delivers before after files Output =
-    Stores before.shelf after.shelf files × AppendsPrefix before.out.content after.out.content solved
-    × Rises before.out.faults after.out.faults
-Delivers before after files other = ⊥
+-- ---- delivery, of any product
 
--- the words are a command's, whose first failure is this one
+-- what is stored and printed of a product, by the ending
+abbrev pub Delivers : Moment → Moment → Product → Ending → Type 0
+Delivers before after product (Done finding) =
+    (finding ≡ product.finding) × Stores before.shelf after.shelf product.files
+    × Appends before.out.content after.out.content product.line
+Delivers before after product (Write name) =
+    StoresUpTo before.shelf after.shelf product.files name × (after.out ≡ before.out) × Rises before.shelf.faults after.shelf.faults
+Delivers before after product Output =
+    Stores before.shelf after.shelf product.files × AppendsPrefix before.out.content after.out.content product.line
+    × Rises before.out.faults after.out.faults
+Delivers before after product other = ⊥
+
+-- ---- why a run ends so
+
+-- the words are a command's, and this is its first failure; the last fetch that was made shows it
 abbrev pub Refuses : List (List ℕ) → Moment → Ending → Type 0
 Refuses words before ending =
-    (command : Exchange) × AreExchange words command × IfSome before.shelf.content (λ held. FailsFirst held command ending)
+    (command : Command) × Spells words command × (fetches : List Fetch) × AreTold before.shelf.content fetches
+    × FailsFirst command fetches ending
 
--- the words are a command's, which reads all that it needs, and these are its files
-abbrev pub Solves : List (List ℕ) → Moment → List FileOut → Type 0
-Solves words before files =
-    (command : Exchange) × AreExchange words command
-    × IfSome before.shelf.content (λ held. (inputs : Inputs) × Reads held command inputs × AreSolvedFiles inputs command.target files)
+-- the words are a command's, all that it reads was fetched and read, and this is what it makes of that
+abbrev pub IsMadeFor : List (List ℕ) → Moment → Product → Type 0
+IsMadeFor words before product =
+    (command : Command) × Spells words command × (fetches : List Fetch) × AreTold before.shelf.content fetches
+    × (inputs : Inputs) × Reads command fetches inputs × Makes command inputs product
 
--- the words are a command's, all that it needs was read, and its files are delivered so
+-- a product of the command is delivered so
 abbrev pub Finishes : List (List ℕ) → Moment → Moment → Ending → Type 0
-Finishes words before after ending = (files : List FileOut) × Solves words before files × Delivers before after files ending
+Finishes words before after ending = (product : Product) × IsMadeFor words before product × Delivers before after product ending
 
 -- why a run ends so, and what is stored and printed then
 abbrev pub Causes : List (List ℕ) → Moment → Moment → Ending → Type 0
-Causes words before after Words = ((command : Exchange) → ¬ (AreExchange words command)) × (after ≡ before)
+Causes words before after Words = SpellsNone words × (after ≡ before)
 Causes words before after (Missing name) = Refuses words before (Missing name) × Untouched before after
 Causes words before after (TooLong name) = Refuses words before (TooLong name) × Untouched before after
 Causes words before after (Mapping fault) = Refuses words before (Mapping fault) × Untouched before after
@@ -88,10 +97,10 @@ Causes words before after NotBuilt = Refuses words before NotBuilt × Untouched 
 Causes words before after (Table name fault) = Refuses words before (Table name fault) × Untouched before after
 Causes words before after (Read name) =
     Refuses words before (Read name) × Untouched before after × Rises before.shelf.faults after.shelf.faults
-Causes words before after Memory = (command : Exchange) × AreExchange words command × Untouched before after
+Causes words before after Memory = (command : Command) × Spells words command × Untouched before after
 Causes words before after (Write name) = Finishes words before after (Write name)
 Causes words before after Output = Finishes words before after Output
-Causes words before after Done = Finishes words before after Done
+Causes words before after (Done finding) = Finishes words before after (Done finding)
 
 -- the line was appended, or a fault was counted
 abbrev pub Says : Device (List ℕ) → Device (List ℕ) → List ℕ → Type 0

@@ -1,17 +1,22 @@
 -- The order of work up to the first store: what is fetched and read in turn, and the first failure.
-use Rattle.std.specs.Prelude.{◌≡◌, ◌⊎◌, ℕ, ◌-◌, List, [], ◌∷◌, length}
-use Rattle.std.specs.FinMap.{get}
+use Rattle.std.specs.Prelude.{◌≡◌, ◌⊎◌, ℕ, ◌-◌, List, [], ◌∷◌, length, All}
+use Rattle.std.specs.declared.option.Option.{Option}
+use Rattle.std.specs.declared.result.Result.{Result}
+use Rattle.std.specs.declared.result.Result.TheVariants.{Ok, Err}
 use Rattle.shelf_core.specs.Held.{Held}
-use Rattle.shelf_core.specs.Fetching.{fetched_of}
+use Rattle.shelf_core.specs.Fetching.{Shows}
+use Rattle.shelf_core.specs.declared.shelf.Fetched.{Fetched}
 use Rattle.shelf_core.specs.declared.shelf.Fetched.TheVariants as fetched
+use Rattle.shelf_core.specs.declared.shelf.FetchError.{FetchError}
+use Rattle.shelf_core.specs.declared.shelf.FetchError.TheVariants.{Failed}
 use Rattle.rule_core.specs.declared.rules.Relation.{Relation}
-use Rattle.exchange_cli.specs.Words.{Exchange}
-use Rattle.exchange_cli.specs.Names.{table_name}
 use Rattle.mapping_core.specs.Mapping.{Meaning as MappingValue}
 use Rattle.mapping_core.specs.Reading.{IsMapping, IsFirstFault as IsMappingFault}
 use Rattle.temporal_csv.specs.Table.{IsTable, IsFirstFault as IsTableFault}
-use Rattle.exchange_cli.specs.Built.{IsBuilt}
-use Rattle.exchange_cli.specs.Target.{SourceTable, Inputs}
+use Rattle.exchange_cli.specs.Words.{Command, Origin, origin_of}
+use Rattle.exchange_cli.specs.Names.{table_name}
+use Rattle.exchange_cli.specs.Built.{Takes}
+use Rattle.exchange_cli.specs.Inputs.{SourceTable, Inputs}
 use Rattle.exchange_cli.specs.declared.ending.Ending.{Ending}
 use Rattle.exchange_cli.specs.declared.ending.Ending.TheVariants.{Missing, TooLong, Mapping, NotBuilt, Table, Read}
 
@@ -22,62 +27,99 @@ mapping_limit = 1048576
 abbrev pub tables_limit : ℕ
 tables_limit = 67108864
 
--- a fetch with this limit gives these bytes
-abbrev pub Gives : Held → List ℕ → ℕ → List ℕ → Type 0
-Gives held name limit bytes = fetched_of (get held name) limit ≡ fetched.Bytes bytes
+-- ---- the fetches of a run
 
--- the mapping is there within its limit, without a fault
-abbrev pub ReadsMapping : Held → Exchange → MappingValue → Type 0
-ReadsMapping held command mapping = (bytes : List ℕ) × Gives held command.mapping mapping_limit bytes × IsMapping bytes mapping
+-- a fetch that was made: its name, its limit, and what was answered
+pub record Fetch : Type 0 where
+  pub name : List ℕ
+  pub limit : ℕ
+  pub answer : Result Fetched FetchError
 
--- the mapping is there without a fault, and is of the form that is built
-abbrev pub ReadsBuilt : Held → Exchange → MappingValue → Type 0
-ReadsBuilt held command mapping = ReadsMapping held command mapping × IsBuilt mapping.rules
+abbrev pub fetch_of : List ℕ → ℕ → Result Fetched FetchError → Fetch
+fetch_of name limit answer = record { name = name; limit = limit; answer = answer }
 
--- the tables of these relations are there within the limit that is left, without a fault, and have these facts
-abbrev pub ReadsTables : Held → List ℕ → ℕ → List Relation → List SourceTable → Type 0
-ReadsTables held prefix left [] tables = tables ≡ []
-ReadsTables held prefix left (r ∷ rs) tables =
-    (bytes : List ℕ) × (facts : SourceTable) × (others : List SourceTable) × Gives held (table_name prefix r.name) left bytes
-    × IsTable r.columns bytes facts × (tables ≡ facts ∷ others) × ReadsTables held prefix (left - length bytes) rs others
+-- where the shelf tells what it holds, each answer is what it holds under that name
+abbrev pub AreTold : Option Held → List Fetch → Type 0
+AreTold told fetches = All (λ fetch. Shows told fetch.name fetch.limit fetch.answer) fetches
 
--- all that the command reads is there, without a fault
-pub record Reads (held : Held) (command : Exchange) (inputs : Inputs) : Type 0 where
-  pub mapping : ReadsBuilt held command inputs.mapping
-  pub tables : ReadsTables held command.source tables_limit inputs.mapping.rules.sources inputs.tables
+-- the fetch of this name with this limit gave these bytes
+abbrev pub Gives : Fetch → List ℕ → ℕ → List ℕ → Type 0
+Gives fetch name limit bytes = fetch ≡ fetch_of name limit (Ok (fetched.Bytes bytes))
 
--- the run comes to fetch the table of this relation with this limit: the tables before it were read
-abbrev pub ComesToTable : Held → List ℕ → ℕ → List Relation → Relation → ℕ → Type 0
-ComesToTable held prefix left [] relation limit = ⊥
-ComesToTable held prefix left (r ∷ rs) relation limit =
-    ((relation ≡ r) × (limit ≡ left))
-    ⊎ ((bytes : List ℕ) × (facts : SourceTable) × Gives held (table_name prefix r.name) left bytes × IsTable r.columns bytes facts
-    × ComesToTable held prefix (left - length bytes) rs relation limit)
+-- ---- all is read
 
--- the same, all that stands before the tables included
-abbrev pub ComesToRelation : Held → Exchange → Relation → ℕ → Type 0
-ComesToRelation held command relation limit =
-    (mapping : MappingValue) × ReadsBuilt held command mapping
-    × ComesToTable held command.source tables_limit mapping.rules.sources relation limit
+-- the mapping was fetched, and is without a fault
+abbrev pub ReadsMapping : Fetch → Origin → MappingValue → Type 0
+ReadsMapping fetch origin mapping = (bytes : List ℕ) × Gives fetch origin.mapping mapping_limit bytes × IsMapping bytes mapping
 
--- the run comes to fetch this name with this limit: all that stands before it went well
-abbrev pub Comes : Held → Exchange → List ℕ → ℕ → Type 0
-Comes held command name limit =
-    ((name ≡ command.mapping) × (limit ≡ mapping_limit))
-    ⊎ ((relation : Relation) × (name ≡ table_name command.source relation.name) × ComesToRelation held command relation limit)
+-- the table of the relation was fetched, has so many bytes, is without a fault, and has these facts
+abbrev pub ReadsTable : Fetch → List ℕ → Relation → ℕ → ℕ → SourceTable → Type 0
+ReadsTable fetch prefix relation limit size facts =
+    (bytes : List ℕ) × Gives fetch (table_name prefix relation.name) limit bytes × (size ≡ length bytes)
+    × IsTable relation.columns bytes facts
 
--- the first failure in the order of work: a mapping that is read is looked at before any table is fetched
-abbrev pub FailsFirst : Held → Exchange → Ending → Type 0
-FailsFirst held command (Missing name) =
-    (limit : ℕ) × Comes held command name limit × (fetched_of (get held name) limit ≡ fetched.Missing)
-FailsFirst held command (TooLong name) =
-    (limit : ℕ) × Comes held command name limit × (fetched_of (get held name) limit ≡ fetched.TooLong)
-FailsFirst held command (Mapping fault) =
-    (bytes : List ℕ) × Gives held command.mapping mapping_limit bytes × IsMappingFault bytes fault
-FailsFirst held command NotBuilt = (mapping : MappingValue) × ReadsMapping held command mapping × ¬ (IsBuilt mapping.rules)
-FailsFirst held command (Table name fault) =
-    (relation : Relation) × (limit : ℕ) × (bytes : List ℕ) × (name ≡ table_name command.source relation.name)
-    × ComesToRelation held command relation limit
-    × Gives held name limit bytes × IsTableFault relation.columns bytes fault
-FailsFirst held command (Read name) = (limit : ℕ) × Comes held command name limit
-FailsFirst held command other = ⊥
+-- the tables of these relations were fetched in turn, each with what was left of the limit, and have these facts
+abbrev pub ReadsTables : List Fetch → List ℕ → ℕ → List Relation → List SourceTable → Type 0
+ReadsTables fetches prefix left [] tables = (fetches ≡ []) × (tables ≡ [])
+ReadsTables fetches prefix left (r ∷ rs) tables =
+    (fetch : Fetch) × (later : List Fetch) × (size : ℕ) × (facts : SourceTable) × (others : List SourceTable)
+    × (fetches ≡ fetch ∷ later) × ReadsTable fetch prefix r left size facts
+    × (tables ≡ facts ∷ others) × ReadsTables later prefix (left - size) rs others
+
+-- all that is read from there was fetched, and is without a fault: the mapping first, and then the tables of its source
+pub record ReadsFrom (origin : Origin) (fetches : List Fetch) (inputs : Inputs) : Type 0 where
+  pub first : Fetch
+  pub later : List Fetch
+  pub all : fetches ≡ first ∷ later
+  pub mapping : ReadsMapping first origin inputs.mapping
+  pub tables : ReadsTables later origin.source tables_limit inputs.mapping.rules.sources inputs.tables
+
+-- all that the command reads was fetched and is without a fault, and the mapping is of a form that it takes
+pub record Reads (command : Command) (fetches : List Fetch) (inputs : Inputs) : Type 0 where
+  pub read : ReadsFrom (origin_of command) fetches inputs
+  pub taken : Takes command inputs.mapping.rules
+
+-- ---- the first failure
+
+-- the fetch ended the run so: there was no such file, it was too long, the shelf failed, or the bytes have this fault
+abbrev pub Stops : Fetch → (List ℕ → Ending → Type 0) → Ending → Type 0
+Stops fetch HasFault (Missing name) = (name ≡ fetch.name) × (fetch.answer ≡ Ok fetched.Missing)
+Stops fetch HasFault (TooLong name) = (name ≡ fetch.name) × (fetch.answer ≡ Ok fetched.TooLong)
+Stops fetch HasFault (Read name) = (name ≡ fetch.name) × (fetch.answer ≡ Err Failed)
+Stops fetch HasFault other = (bytes : List ℕ) × (fetch.answer ≡ Ok (fetched.Bytes bytes)) × HasFault bytes other
+
+-- the bytes of a mapping are refused so: they have a fault, or the command doesn't take a mapping of this form yet
+abbrev pub RefusesMapping : Command → List ℕ → Ending → Type 0
+RefusesMapping command bytes (Mapping fault) = IsMappingFault bytes fault
+RefusesMapping command bytes NotBuilt = (mapping : MappingValue) × IsMapping bytes mapping × ¬ (Takes command mapping.rules)
+RefusesMapping command bytes other = ⊥
+
+-- the bytes of a table are refused so
+abbrev pub RefusesTable : List ℕ → Relation → List ℕ → Ending → Type 0
+RefusesTable prefix relation bytes (Table name fault) =
+    (name ≡ table_name prefix relation.name) × IsTableFault relation.columns bytes fault
+RefusesTable prefix relation bytes other = ⊥
+
+-- the fetch is that of this name with this limit, and ended the run so
+pub record StopsAt (fetch : Fetch) (name : List ℕ) (limit : ℕ) (HasFault : List ℕ → Ending → Type 0) (ending : Ending) : Type 0 where
+  pub named : fetch.name ≡ name
+  pub limited : fetch.limit ≡ limit
+  pub stops : Stops fetch HasFault ending
+
+-- the last of the fetches ended the run so, and the tables before it were read
+abbrev pub StopsAtTable : List Fetch → List ℕ → ℕ → List Relation → Ending → Type 0
+StopsAtTable fetches prefix left [] ending = ⊥
+StopsAtTable fetches prefix left (r ∷ rs) ending =
+    (fetch : Fetch) × (later : List Fetch) × (fetches ≡ fetch ∷ later)
+    × (((later ≡ []) × StopsAt fetch (table_name prefix r.name) left (RefusesTable prefix r) ending)
+    ⊎ ((size : ℕ) × (facts : SourceTable) × ReadsTable fetch prefix r left size facts
+    × StopsAtTable later prefix (left - size) rs ending))
+
+-- the last of the fetches ended the run so, and all that stands before it in the order of work went well: a mapping that is
+-- read is looked at before any table is fetched
+abbrev pub FailsFirst : Command → List Fetch → Ending → Type 0
+FailsFirst command fetches ending =
+    (fetch : Fetch) × (later : List Fetch) × (fetches ≡ fetch ∷ later)
+    × (((later ≡ []) × StopsAt fetch (origin_of command).mapping mapping_limit (RefusesMapping command) ending)
+    ⊎ ((mapping : MappingValue) × ReadsMapping fetch (origin_of command) mapping × Takes command mapping.rules
+    × StopsAtTable later (origin_of command).source tables_limit mapping.rules.sources ending))

@@ -1,13 +1,13 @@
-//! The form of mapping that is built so far.
+//! The form of mapping that an exchange is built for so far.
 
 ghost use Rattle.std.specs.Prelude.{◌↔◌, IsTrue};
-ghost use Rattle.exchange_cli.specs.Built.{IsBuilt};
+ghost use Rattle.exchange_engine.specs.Solved.{IsPlain};
 
 use rule_core::Rules;
 
 /// Whether the mapping has no egd and no query.
-pub fn is_built(rules: &Rules) -> bool
-    ensures { IsTrue result ↔ IsBuilt rules.now }
+pub fn is_plain(rules: &Rules) -> bool
+    ensures { IsTrue result ↔ IsPlain rules.now }
 {
     rules.egds().is_empty() && rules.queries().is_empty()
 }

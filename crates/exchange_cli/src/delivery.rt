@@ -1,4 +1,4 @@
-//! Stores the files of an outcome and prints its line. Nothing here takes memory.
+//! Stores the files of a product and prints its line. Nothing here takes memory.
 
 ghost use Rattle.std.specs.Prelude.{◌≡◌, ◌<◌, ◌≤◌, length, slice_index_or, OnOk, IfErr};
 ghost use Rattle.exchange_cli.specs.Run.{device, seen, Stores, Delivers};
@@ -7,24 +7,27 @@ ghost use Rattle.exchange_cli.specs.declared.file.FileOut.{FileOut as File};
 
 use crate::ending::Ending;
 use crate::file::FileOut;
+use crate::product::Product;
 use shelf_core::{Shelf, Sink};
 use term_core::{Items, Text};
 
-/// What is printed where the exchange is solved, and what its verdict holds.
-pub const SOLVED: &[u8] = b"solved\n";
-
 /// Stores the files in their order and then prints the line. A failure ends it.
-pub fn deliver<S: Shelf, O: Sink>(files: Items<FileOut>, shelf: &mut S, out: &mut O) -> Ending
+pub fn deliver<S: Shelf, O: Sink>(product: Product, shelf: &mut S, out: &mut O) -> Ending
     ensures delivers { Delivers
         (seen S.holds S.faults O.text O.faults shelf.old out.old)
-        (seen S.holds S.faults O.text O.faults shelf.new out.new) files result }
+        (seen S.holds S.faults O.text O.faults shelf.new out.new) product result }
     ensures later { S.faults shelf.old ≤ S.faults shelf.new }
 {
+    let Product {
+        files,
+        line,
+        finding,
+    } = product;
     if let Err(at) = store_all(shelf, files.as_slice()) {
         return Ending::Write(name_at(files, at));
     }
-    match out.put(SOLVED) {
-        Ok(()) => Ending::Done,
+    match out.put(line.as_slice()) {
+        Ok(()) => Ending::Done(finding),
         Err(_) => Ending::Output,
     }
 }

@@ -7,11 +7,18 @@ use decl_text::MappingFault;
 use temporal_csv::TableFault;
 use term_core::{Memory, Text};
 
+/// What a command found, where all was done.
+#[derive(Clone, Copy)]
+pub enum Finding {
+    /// The mapping has a solution for the source at every instant.
+    Solved,
+}
+
 /// How a run ends. Each refusal and each fault names what it is about.
 #[derive(Drop)]
 pub enum Ending {
-    /// The files are stored and the line is printed.
-    Done,
+    /// The files are stored, and the line of what was found is printed.
+    Done(Finding),
     /// The words are no command's.
     Words,
     /// There is no such file.
@@ -42,6 +49,19 @@ impl From<Memory> for Ending {
     }
 }
 
+impl Finding {
+    ghost use Rattle.exchange_cli.specs.Endings.{status_found};
+
+    /// The status of a run that found this.
+    pub fn status(self) -> u8
+        ensures { result ≡ status_found self }
+    {
+        match self {
+            Finding::Solved => 0,
+        }
+    }
+}
+
 impl Ending {
     ghost use Rattle.exchange_cli.specs.Endings.{status_of};
 
@@ -50,7 +70,7 @@ impl Ending {
         ensures { result ≡ status_of self.now }
     {
         match self {
-            Ending::Done => 0,
+            Ending::Done(finding) => finding.status(),
             Ending::Missing(_) | Ending::TooLong(_) => 1,
             Ending::Mapping(_) | Ending::NotBuilt | Ending::Table(_, _) => 1,
             Ending::Read(_) | Ending::Write(_) | Ending::Output => 3,

@@ -1,9 +1,8 @@
 //! Fetches a file that a command needs.
 
-ghost use Rattle.std.specs.Prelude.{◌≡◌, ◌≤◌, IfOk, IfErr, IfSome, length};
-ghost use Rattle.exchange_cli.specs.Work.{Gives};
+ghost use Rattle.std.specs.Prelude.{◌≡◌, ◌≤◌, IfOk, IfErr, length};
 ghost use Rattle.exchange_cli.specs.Run.{device};
-ghost use Rattle.exchange_cli.specs.Steps.{FailsToFetch, Keeps};
+ghost use Rattle.exchange_cli.specs.Steps.{AnswersWith, FailsToFetch, Keeps};
 
 use crate::ending::Ending;
 use shelf_core::{Bytes, FetchError, Fetched, Shelf};
@@ -19,8 +18,7 @@ pub fn fetch<S: Shelf>(
 ) -> Result<Bytes, Ending>
     ensures keeps { Keeps (device (S.holds shelf.old) (S.faults shelf.old))
         (device (S.holds shelf.new) (S.faults shelf.new)) }
-    ensures gives { IfOk result (λ bytes. IfSome (S.holds shelf.old)
-        (λ held. Gives held name.now limit bytes)) }
+    ensures gives { IfOk result (AnswersWith (S.holds shelf.old) name.now limit) }
     ensures bound { IfOk result (λ bytes. length bytes ≤ limit) }
     ensures fails { IfErr result (FailsToFetch (device (S.holds shelf.old) (S.faults shelf.old))
         (device (S.holds shelf.new) (S.faults shelf.new)) name.now limit) }

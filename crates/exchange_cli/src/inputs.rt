@@ -1,16 +1,16 @@
 //! What a command reads: the mapping, and the facts of its source tables.
 
-ghost use Rattle.std.specs.Prelude.{◌≡◌, ◌+◌, ◌-◌, ◌^◌, ◌<◌, ◌≤◌, All, IfOk, IfErr, IfSome, length, sum_by};
+ghost use Rattle.std.specs.Prelude.{◌≡◌, ◌+◌, ◌-◌, ◌^◌, ◌<◌, ◌≤◌, All, IfOk, IfErr, length, sum_by};
 ghost use Rattle.rule_core.specs.Validity.{IsRelation};
 ghost use Rattle.exchange_engine.specs.Loading.{AreTablesOf, cell_count};
-ghost use Rattle.exchange_cli.specs.Built.{IsBuilt};
+ghost use Rattle.exchange_cli.specs.Built.{Takes};
 ghost use Rattle.exchange_cli.specs.Commands.{command_of};
-ghost use Rattle.exchange_cli.specs.Work.{Reads, ReadsMapping, ReadsTables, tables_limit};
+ghost use Rattle.exchange_cli.specs.Names.{table_name};
+ghost use Rattle.exchange_cli.specs.Work.{RefusesTable, mapping_limit};
 ghost use Rattle.exchange_cli.specs.Run.{device};
-ghost use Rattle.exchange_cli.specs.Steps.{Keeps, StopsEarly, ReadsBuiltIn, ReadsTable, ComesIn, read_of};
+ghost use Rattle.exchange_cli.specs.Steps.{Keeps, AnswersMapping, AnswersTable, AnswersTables, AnswersAll, FailsToRead, HasMappingFault, StopsInTables, StopsEarly, read_of};
 
-use crate::built::is_built;
-use crate::command::Exchange;
+use crate::command::Command;
 use crate::ending::Ending;
 use crate::fetching::fetch;
 use crate::file_names::name_table;
@@ -39,13 +39,13 @@ pub struct Inputs {
 pub fn read_inputs<S: Shelf>(
     alloc: Global,
     shelf: &mut S,
-    command: &Exchange<'_>,
+    command: &Command<'_>,
 ) -> Result<Inputs, Ending>
     ensures keeps { Keeps (device (S.holds shelf.old) (S.faults shelf.old))
         (device (S.holds shelf.new) (S.faults shelf.new)) }
-    ensures reads { IfOk result (λ inputs. IfSome (S.holds shelf.old)
-        (λ held. Reads held (command_of command.now) (read_of inputs))) }
-    ensures built { IfOk result (λ inputs. IsBuilt inputs.mapping.rules) }
+    ensures reads { IfOk result (λ inputs.
+        AnswersAll (S.holds shelf.old) (command_of command.now) (read_of inputs)) }
+    ensures taken { IfOk result (λ inputs. Takes (command_of command.now) inputs.mapping.rules) }
     ensures tables { IfOk result (λ inputs.
         AreTablesOf inputs.mapping.rules.sources inputs.tables) }
     ensures few { IfOk result (λ inputs.
@@ -53,29 +53,25 @@ pub fn read_inputs<S: Shelf>(
     ensures stops { IfErr result (StopsEarly (device (S.holds shelf.old) (S.faults shelf.old))
         (device (S.holds shelf.new) (S.faults shelf.new)) (command_of command.now)) }
 {
-    let mapping = fetch_mapping(alloc, shelf, command)?;
-    if !is_built(&mapping.rules) {
+    let origin = command.origin();
+    let mapping = fetch_mapping(alloc, shelf, origin.mapping)?;
+    if !command.takes(&mapping.rules) {
         return Err(Ending::NotBuilt);
     }
-    let tables = fetch_tables(alloc, shelf, command, &mapping)?;
+    let tables = fetch_tables(alloc, shelf, origin.source, &mapping)?;
     Ok(Inputs { mapping, tables })
 }
 
 // The mapping.
-fn fetch_mapping<S: Shelf>(
-    alloc: Global,
-    shelf: &mut S,
-    command: &Exchange<'_>,
-) -> Result<Mapping, Ending>
+fn fetch_mapping<S: Shelf>(alloc: Global, shelf: &mut S, name: &str) -> Result<Mapping, Ending>
     ensures keeps { Keeps (device (S.holds shelf.old) (S.faults shelf.old))
         (device (S.holds shelf.new) (S.faults shelf.new)) }
-    ensures reads { IfOk result (λ mapping. IfSome (S.holds shelf.old)
-        (λ held. ReadsMapping held (command_of command.now) mapping)) }
+    ensures reads { IfOk result (AnswersMapping (S.holds shelf.old) name.now mapping_limit) }
     ensures few { IfOk result (λ mapping. length mapping.pool ≤ MAPPING_LIMIT) }
-    ensures stops { IfErr result (StopsEarly (device (S.holds shelf.old) (S.faults shelf.old))
-        (device (S.holds shelf.new) (S.faults shelf.new)) (command_of command.now)) }
+    ensures stops { IfErr result (FailsToRead (device (S.holds shelf.old) (S.faults shelf.old))
+        (device (S.holds shelf.new) (S.faults shelf.new)) name.now mapping_limit HasMappingFault) }
 {
-    let name = Text::from_str(alloc, command.mapping)?;
+    let name = Text::from_str(alloc, name)?;
     let bytes = fetch(alloc, shelf, &name, MAPPING_LIMIT)?;
     match read_mapping(alloc, bytes.as_slice()) {
         Ok(mapping) => Ok(mapping),
@@ -88,26 +84,23 @@ fn fetch_mapping<S: Shelf>(
 fn fetch_tables<S: Shelf>(
     alloc: Global,
     shelf: &mut S,
-    command: &Exchange<'_>,
+    source: &str,
     mapping: &Mapping,
 ) -> Result<Items<Items<RawFact>>, Ending>
     ensures keeps { Keeps (device (S.holds shelf.old) (S.faults shelf.old))
         (device (S.holds shelf.new) (S.faults shelf.new)) }
-    ensures reads { IfOk result (λ tables. IfSome (S.holds shelf.old)
-        (λ held. ReadsTables held command.now.source.now tables_limit
-        mapping.now.rules.sources tables)) }
+    ensures reads { IfOk result
+        (AnswersTables (S.holds shelf.old) source.now mapping.now.rules.sources) }
     ensures tables { IfOk result (λ tables. AreTablesOf mapping.now.rules.sources tables) }
     ensures few { IfOk result (λ tables. cell_count tables ≤ 1_024_000_000) }
-    ensures stops { IfErr result (λ ending.
-        ReadsBuiltIn (S.holds shelf.old) (command_of command.now) mapping.now
-        → StopsEarly (device (S.holds shelf.old) (S.faults shelf.old))
-        (device (S.holds shelf.new) (S.faults shelf.new)) (command_of command.now) ending) }
+    ensures stops { IfErr result (StopsInTables (device (S.holds shelf.old) (S.faults shelf.old))
+        (device (S.holds shelf.new) (S.faults shelf.new)) source.now mapping.now.rules.sources) }
 {
     mapping.rules.is_kept();
     let mut left = TABLES_LIMIT;
     let mut tables = Items::new(alloc);
     for relation in mapping.rules.sources().as_slice() {
-        let (facts, len) = fetch_table(alloc, shelf, command, relation, left)?;
+        let (facts, len) = fetch_table(alloc, shelf, source, relation, left)?;
         left -= len;
         tables.push(facts)?;
     }
@@ -118,25 +111,24 @@ fn fetch_tables<S: Shelf>(
 fn fetch_table<S: Shelf>(
     alloc: Global,
     shelf: &mut S,
-    command: &Exchange<'_>,
+    source: &str,
     relation: &Relation,
     limit: usize,
 ) -> Result<(Items<RawFact>, usize), Ending>
     requires { IsRelation relation.now }
     ensures keeps { Keeps (device (S.holds shelf.old) (S.faults shelf.old))
         (device (S.holds shelf.new) (S.faults shelf.new)) }
-    ensures reads { IfOk result (λ read. IfSome (S.holds shelf.old)
-        (λ held. ReadsTable held command.now.source.now relation.now limit read.0 read.1)) }
+    ensures reads { IfOk result (λ read.
+        AnswersTable (S.holds shelf.old) source.now relation.now limit read.1 read.0) }
     ensures within { IfOk result (λ read. read.1 ≤ limit) }
     ensures wide { IfOk result (λ read.
         All (λ fact. length fact.row ≡ length relation.now.columns) read.0) }
     ensures few { IfOk result (λ read. sum_by (λ fact. length fact.row) read.0 ≤ 16_000_000) }
-    ensures stops { IfErr result (λ ending.
-        ComesIn (S.holds shelf.old) (command_of command.now) relation.now limit
-        → StopsEarly (device (S.holds shelf.old) (S.faults shelf.old))
-        (device (S.holds shelf.new) (S.faults shelf.new)) (command_of command.now) ending) }
+    ensures stops { IfErr result (FailsToRead (device (S.holds shelf.old) (S.faults shelf.old))
+        (device (S.holds shelf.new) (S.faults shelf.new)) (table_name source.now relation.now.name)
+        limit (RefusesTable source.now relation.now)) }
 {
-    let name = name_table(alloc, command.source, &relation.name)?;
+    let name = name_table(alloc, source, &relation.name)?;
     let bytes = fetch(alloc, shelf, &name, limit)?;
     match read_table(alloc, bytes.as_slice(), &relation.columns) {
         Ok(facts) => Ok((facts, bytes.as_slice().len())),

@@ -1,15 +1,20 @@
 //! What the order of work gives: what is read is one, and either all is read or something is the first failure. And why
 //! what an exchange gives is, as it is stored, a target of what was read.
 
-ghost use Rattle.std.specs.Prelude.{◌≡◌, ◌≢◌, ℕ, List, map};
+ghost use Rattle.std.specs.Prelude.{◌≡◌, ◌≢◌, ℕ, List, Some, map};
 ghost use Rattle.shelf_core.specs.Held.{Held};
+ghost use Rattle.rule_core.specs.Validity.{IsValid};
 ghost use Rattle.exchange_engine.specs.Loading.{LoadedOf};
 ghost use Rattle.exchange_engine.specs.declared.outcome.Solved.{Solved};
-ghost use Rattle.exchange_cli.specs.Words.{Exchange};
+ghost use Rattle.exchange_cli.specs.Words.{Command};
 ghost use Rattle.exchange_cli.specs.Rendering.{stored_table};
 ghost use Rattle.exchange_cli.specs.Exchanged.{IsLoadedFrom, IsSolvedFrom};
-ghost use Rattle.exchange_cli.specs.Target.{Inputs, IsTarget};
-ghost use Rattle.exchange_cli.specs.Work.{Reads, FailsFirst};
+ghost use Rattle.exchange_cli.specs.Inputs.{Inputs};
+ghost use Rattle.exchange_cli.specs.Target.{IsTarget};
+ghost use Rattle.exchange_cli.specs.Files.{HaveDistinctNames};
+ghost use Rattle.exchange_cli.specs.Product.{Makes};
+ghost use Rattle.exchange_cli.specs.Work.{Fetch, AreTold, Reads, FailsFirst};
+ghost use Rattle.exchange_cli.specs.declared.product.Product.{Product};
 ghost use Rattle.exchange_cli.specs.declared.ending.Ending.{Ending};
 ghost use Rattle.exchange_cli.specs.declared.ending.Ending.TheVariants.{Read};
 
@@ -27,7 +32,8 @@ use term_core::laws::{ids_are_ordered_as_their_texts, unknowns_have_one_order};
 
 /// All that a command reads from what is held is one mapping and one list of tables.
 pub fn what_is_read_is_one()
-    ensures { (held : Held) (command : Exchange) (a b : Inputs) → Reads held command a → Reads held command b → a ≡ b }
+    ensures { (held : Held) (command : Command) (f g : List Fetch) (a b : Inputs)
+        → AreTold (Some held) f → AreTold (Some held) g → Reads command f a → Reads command g b → a ≡ b }
 {
     a_mapping_is_one();
     a_table_has_one_list_of_facts();
@@ -36,25 +42,31 @@ pub fn what_is_read_is_one()
 /// Where all that a command reads is there without a fault, no refusal is the first failure: only a fault of the
 /// shelf is left.
 pub fn what_is_read_is_not_refused()
-    ensures { (held : Held) (command : Exchange) (inputs : Inputs) → Reads held command inputs
-        → (ending : Ending) → FailsFirst held command ending → (name : List ℕ) × (ending ≡ Read name) }
+    ensures { (held : Held) (command : Command) (f g : List Fetch) (inputs : Inputs) (ending : Ending)
+        → AreTold (Some held) f → AreTold (Some held) g → Reads command f inputs → FailsFirst command g ending
+        → (name : List ℕ) × (ending ≡ Read name) }
 {
     a_mapping_is_one();
-    a_table_has_one_list_of_facts();
     a_table_has_facts_or_a_fault();
 }
 
 /// Two first failures that are no faults of the shelf are one: where a run is refused, what is held refuses it so and not
 /// otherwise.
 pub fn there_is_one_first_refusal()
-    ensures { (held : Held) (command : Exchange) (a b : Ending)
-        → FailsFirst held command a → FailsFirst held command b
+    ensures { (held : Held) (command : Command) (f g : List Fetch) (a b : Ending)
+        → AreTold (Some held) f → AreTold (Some held) g → FailsFirst command f a → FailsFirst command g b
         → ((name : List ℕ) → a ≢ Read name) → ((name : List ℕ) → b ≢ Read name) → a ≡ b }
 {
     a_mapping_is_one();
     a_table_has_one_first_fault();
     a_table_has_facts_or_a_fault();
 }
+
+/// No two files of a product have one name, so the files before the one of a name are one list.
+pub fn files_of_a_product_have_distinct_names()
+    ensures { (command : Command) (inputs : Inputs) (product : Product)
+        → IsValid inputs.mapping.rules → Makes command inputs product → HaveDistinctNames product.files }
+{}
 
 /// Tables that an exchange gives are, as they are stored, a target of what was read: constants by their texts and unknowns
 /// by their numbers say what the exchange says of numbers of constants and of unknowns by their origin.

@@ -11,13 +11,16 @@ mod file;
 mod file_names;
 mod inputs;
 pub mod laws;
+mod making;
+mod product;
 mod rendering;
 mod reporting;
 mod solving;
 mod storing;
 mod top;
 
-pub use ending::Ending;
+pub use ending::{Ending, Finding};
 pub use file::FileOut;
+pub use product::Product;
 pub use rendering::render;
 pub use top::{end_without_memory, run};

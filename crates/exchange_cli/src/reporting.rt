@@ -21,7 +21,7 @@ pub fn report<E: Sink>(err: &mut E, ending: &Ending)
         (device (E.text err.new) (E.faults err.new)) (line_of ending.now) }
 {
     match ending {
-        Ending::Done => {}
+        Ending::Done(_) => {}
         Ending::Words => say(err, b"refused: words", b""),
         Ending::Missing(name) => say(err, b"refused: missing ", name.as_bytes()),
         Ending::TooLong(name) => say(err, b"refused: too long ", name.as_bytes()),

@@ -3,32 +3,38 @@
 ghost use Rattle.std.specs.Prelude.{◌≡◌, ◌+◌, ◌<◌, ◌-◌, ◌^◌, IfOk, length};
 ghost use Rattle.exchange_engine.specs.Loading.{AreTablesOf, cell_count};
 ghost use Rattle.exchange_engine.specs.Solved.{IsPlain};
-ghost use Rattle.exchange_cli.specs.Built.{IsBuilt};
-ghost use Rattle.exchange_cli.specs.Target.{AreSolvedFiles};
+ghost use Rattle.exchange_cli.specs.Product.{IsSolved};
 ghost use Rattle.exchange_cli.specs.Exchanged.{IsLoadedFrom, IsSolvedFrom};
 ghost use Rattle.exchange_cli.specs.Steps.{read_of};
 
-use crate::file::FileOut;
+use crate::ending::Finding;
 use crate::inputs::Inputs;
 use crate::laws::stored_tables_are_a_target;
+use crate::product::Product;
 use crate::rendering::render;
+use crate::storing::SOLVED;
 use exchange_engine::{Loaded, Outcome, Solved, exchange, load};
+use shelf_core::Bytes;
 use std::alloc::Global;
 use std::marker::Brand;
 use std::sync::ledger::{Blank, Ledger};
-use term_core::{Items, Memory, Steps};
+use term_core::{Memory, Steps};
 
-/// The files of a solved exchange, in the order in which they are stored.
-pub fn solve(alloc: Global, target: &str, inputs: Inputs) -> Result<Items<FileOut>, Memory>
-    requires built { IsBuilt inputs.mapping.rules }
+/// What an exchange makes: the files of a target, and what is printed of it.
+pub fn solve(alloc: Global, target: &str, inputs: Inputs) -> Result<Product, Memory>
+    requires plain { IsPlain inputs.mapping.rules }
     requires tables { AreTablesOf inputs.mapping.rules.sources inputs.tables }
     requires few { length inputs.mapping.pool + cell_count inputs.tables < 2 ^ 32 - 1 }
-    ensures { IfOk result (AreSolvedFiles (read_of inputs) target.now) }
+    ensures { IfOk result (IsSolved (read_of inputs) target.now) }
 {
     stored_tables_are_a_target();
     let loaded = load_inputs(alloc, inputs)?;
     let solved = exchanged::<Brand>(alloc, &loaded, Blank::new(1))?;
-    render(alloc, &loaded, &solved, target)
+    Ok(Product {
+        files: render(alloc, &loaded, &solved, target)?,
+        line: Bytes::from_vec(SOLVED.to_vec(alloc)?),
+        finding: Finding::Solved,
+    })
 }
 
 // What was read, loaded. The texts that were read are given up.

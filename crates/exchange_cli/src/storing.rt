@@ -3,10 +3,10 @@
 ghost use Rattle.std.specs.Prelude.{◌≡◌, map, All, IfOk};
 ghost use Rattle.rule_core.specs.Validity.{IsRelation};
 ghost use Rattle.temporal_csv.specs.Stored.{AreNumbered, IsAsWideAs, header_of, stamped_row};
-ghost use Rattle.exchange_cli.specs.Names.{verdict_name};
-ghost use Rattle.exchange_cli.specs.Target.{IsTableFile, TargetTable, solved};
+ghost use Rattle.exchange_cli.specs.Target.{IsTableFile, TargetTable};
+ghost use Rattle.exchange_cli.specs.Files.{IsVerdict};
+ghost use Rattle.exchange_cli.specs.Endings.{solved};
 
-use crate::delivery::SOLVED;
 use crate::file::FileOut;
 use crate::file_names::{name_table, name_verdict};
 use rule_core::Relation;
@@ -49,9 +49,12 @@ fn header_texts(alloc: Global, columns: &Items<Text>) -> Result<Items<Text>, Mem
     Ok(header)
 }
 
+/// What the verdict of a solved exchange holds, and what is printed of it.
+pub const SOLVED: &[u8] = b"solved\n";
+
 /// The verdict of a solved exchange.
 pub fn verdict(alloc: Global, target: &str) -> Result<FileOut, Memory>
-    ensures { IfOk result (λ file. file ≡ record { name = verdict_name target.now; bytes = solved }) }
+    ensures { IfOk result (IsVerdict target.now solved) }
 {
     Ok(FileOut {
         name: name_verdict(alloc, target)?,

@@ -1,17 +1,18 @@
 //! The one call that the program makes.
 
 ghost use Rattle.std.specs.Prelude.{◌≡◌, map, string_bytes};
+ghost use Rattle.exchange_cli.specs.Words.{SpellsNone};
 ghost use Rattle.exchange_cli.specs.Run.{device, seen, Causes, Ends, Says};
 ghost use Rattle.exchange_cli.specs.Endings.{line_of};
-ghost use Rattle.exchange_cli.specs.Headline.{WordsClause, StatusClause, TargetClause, OutputClause, StoreClause};
+ghost use Rattle.exchange_cli.specs.Headline.{WordsClause, AnswerClause, RefusalClause, CompletesClause, OutputClause, StoreClause, StatusClause, TargetClause};
 
 use crate::command::read_words;
 use crate::delivery::deliver;
 use crate::ending::Ending;
 use crate::inputs::read_inputs;
-use crate::laws::{what_is_read_is_not_refused, what_is_read_is_one};
+use crate::laws::{there_is_one_first_refusal, what_is_read_is_not_refused, what_is_read_is_one};
+use crate::making::make;
 use crate::reporting::report;
-use crate::solving::solve;
 use shelf_core::{Shelf, Sink};
 use std::alloc::Global;
 
@@ -25,29 +26,49 @@ pub fn run<S: Shelf, O: Sink, E: Sink>(
     out: &mut O,
     err: &mut E,
 ) -> u8
+    // How it ends, by the step that it came to, and what is said of that.
     ensures ends { Ends (map string_bytes words.now.items)
         (seen S.holds S.faults O.text O.faults shelf.old out.old)
         (seen S.holds S.faults O.text O.faults shelf.new out.new)
         (device (E.text err.old) (E.faults err.old))
         (device (E.text err.new) (E.faults err.new)) result }
-    ensures words { WordsClause (map string_bytes words.now.items) result }
-    ensures untouched { result ≡ 5 → shelf.new ≡ shelf.old }
 
-    // The clauses under the headline.
+    // Words that spell no command.
+    ensures words { WordsClause (map string_bytes words.now.items)
+        (seen S.holds S.faults O.text O.faults shelf.old out.old)
+        (seen S.holds S.faults O.text O.faults shelf.new out.new)
+        (device (E.text err.old) (E.faults err.old))
+        (device (E.text err.new) (E.faults err.new)) result }
+    ensures untouched { SpellsNone (map string_bytes words.now.items) → shelf.new ≡ shelf.old }
+
+    // The clauses of every command.
+    ensures answer { AnswerClause (map string_bytes words.now.items) result }
+    ensures refusals { RefusalClause (map string_bytes words.now.items)
+        (seen S.holds S.faults O.text O.faults shelf.old out.old)
+        (seen S.holds S.faults O.text O.faults shelf.new out.new)
+        (device (E.text err.old) (E.faults err.old))
+        (device (E.text err.new) (E.faults err.new)) result }
+    ensures completes { CompletesClause (map string_bytes words.now.items)
+        (seen S.holds S.faults O.text O.faults shelf.old out.old)
+        (seen S.holds S.faults O.text O.faults shelf.new out.new) result }
+    ensures output { OutputClause (map string_bytes words.now.items)
+        (device (O.text out.old) (O.faults out.old))
+        (device (O.text out.new) (O.faults out.new)) result }
+    ensures stores { StoreClause (map string_bytes words.now.items)
+        (seen S.holds S.faults O.text O.faults shelf.old out.old)
+        (seen S.holds S.faults O.text O.faults shelf.new out.new) result }
+
+    // The clauses of `exchange`.
     ensures status { StatusClause (map string_bytes words.now.items)
         (seen S.holds S.faults O.text O.faults shelf.old out.old)
         (seen S.holds S.faults O.text O.faults shelf.new out.new) result }
     ensures target { TargetClause (map string_bytes words.now.items)
         (seen S.holds S.faults O.text O.faults shelf.old out.old)
         (seen S.holds S.faults O.text O.faults shelf.new out.new) result }
-    ensures output { OutputClause (device (O.text out.old) (O.faults out.old))
-        (device (O.text out.new) (O.faults out.new)) result }
-    ensures stores { StoreClause
-        (seen S.holds S.faults O.text O.faults shelf.old out.old)
-        (seen S.holds S.faults O.text O.faults shelf.new out.new) result }
 {
     what_is_read_is_one();
     what_is_read_is_not_refused();
+    there_is_one_first_refusal();
     let ending = work(alloc, words.as_slice(), shelf, out);
     report(err, &ending);
     ending.status()
@@ -69,7 +90,7 @@ fn work<S: Shelf, O: Sink>(alloc: Global, words: &[String], shelf: &mut S, out: 
     ensures causes { Causes (map string_bytes words.now)
         (seen S.holds S.faults O.text O.faults shelf.old out.old)
         (seen S.holds S.faults O.text O.faults shelf.new out.new) result }
-    ensures untouched { result ≡ Ending.Words → shelf.new ≡ shelf.old }
+    ensures untouched { SpellsNone (map string_bytes words.now) → shelf.new ≡ shelf.old }
 {
     let Some(command) = read_words(words) else {
         return Ending::Words;
@@ -78,8 +99,8 @@ fn work<S: Shelf, O: Sink>(alloc: Global, words: &[String], shelf: &mut S, out: 
         Ok(inputs) => inputs,
         Err(ending) => return ending,
     };
-    match solve(alloc, command.target, inputs) {
-        Ok(files) => deliver(files, shelf, out),
+    match make(alloc, &command, inputs) {
+        Ok(product) => deliver(product, shelf, out),
         Err(_) => Ending::Memory,
     }
 }

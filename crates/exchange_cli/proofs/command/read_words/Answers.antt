@@ -3,10 +3,10 @@ use Rattle.std.proofs.Common.{◌≡◌, ◌∙◌, ap, map, string_bytes, lengt
 use Rattle.exchange_cli.proofs.ListLemmas.{four}
 use Rattle.exchange_cli.proofs.command.read_words.Goals as goal
 
-pub returns-clause-spelled : goal.returns-clause-spelled
-returns-clause-spelled c =
+pub returns-then-eq-clause-spelled : goal.returns-then-eq-clause-spelled
+returns-then-eq-clause-spelled c =
     let size : length c.args.words.now ≡ 4 = omega arith in
-    let all = four c.args.words.now c.first-item.result c.mapping-item.result c.source-item.result c.target-item.result size
-    c.first-item.is c.mapping-item.is c.source-item.is c.target-item.is in
+    let all = four c.args.words.now c.first-item.result c.mapping-item.result c.source-item.result c.out-item.result size
+    c.first-item.is c.mapping-item.is c.source-item.is c.out-item.is in
     let word : string_bytes c.first-item.result ≡ codes "exchange" = search rules in
     ap (map string_bytes) all ∙ cc

@@ -4,11 +4,9 @@ use Rattle.std.proofs.lemmas.Result.{err_from_is_err_and}
 use Rattle.std.proofs.lemmas.List.{drop_more, drop_all}
 use Rattle.rule_core.specs.Validity.{IsRelation}
 use Rattle.mapping_core.specs.Mapping.{Meaning}
-use Rattle.exchange_cli.specs.Commands.{command_of}
 use Rattle.exchange_cli.specs.Run.{device}
-use Rattle.exchange_cli.specs.Steps.{ComesIn}
 use Rattle.exchange_cli.proofs.SizeLemmas.{none_is_read, one_more_is_read, all_are_read, all_have_few_cells}
-use Rattle.exchange_cli.proofs.StepLemmas.{GoesOnIn, goes_on_first, goes_on_more, goes_on_last, comes_next, keeps_both, stops_since}
+use Rattle.exchange_cli.proofs.StepLemmas.{GoesOnIn, goes_on_first, goes_on_more, goes_on_last, table_stops, keeps_both}
 use Rattle.exchange_cli.proofs.inputs.fetch_tables.Goals as goal
 use Rattle.exchange_cli.proofs.inputs.fetch_tables.Goals.{After-relation-item, After-as_slice-relation-items}
 use Rattle.exchange_cli.proofs.inputs.fetch_tables.Given.{Over}
@@ -16,7 +14,7 @@ use Rattle.exchange_cli.proofs.inputs.fetch_tables.Given.{Over}
 pub loop-relation-init : goal.loop-relation-init
 loop-relation-init g c = record {
   keeps = record { same = refl; later = omega arith };
-  goes_on = rw c.new-tables.ensures (goes_on_first (g.S.Shelf.holds c.args.shelf.now) c.args.command.now.source.now c.args.mapping.now.rules.sources);
+  goes_on = rw c.new-tables.ensures (goes_on_first (g.S.Shelf.holds c.args.shelf.now) c.args.source.now c.args.mapping.now.rules.sources);
   read = rw c.new-tables.ensures (none_is_read c.args.mapping.now.rules.sources);
 }
 
@@ -25,7 +23,7 @@ relations_are : (g : Over) (c : After-as_slice-relation-items g) → c.as_slice-
 relations_are g c = c.as_slice-relation-items.ensures ∙ c.sources.ensures ∙ ap (λ (m : Meaning). m.rules.sources) c.mapping.view_is
 
 -- the relation of a turn is the first of those that are left
-goes_on_here : (g : Over) (c : After-relation-item g) → GoesOnIn (g.S.Shelf.holds c.args.shelf.now) c.args.command.now.source.now
+goes_on_here : (g : Over) (c : After-relation-item g) → GoesOnIn (g.S.Shelf.holds c.args.shelf.now) c.args.source.now
     c.args.mapping.now.rules.sources
     (c.relation-item.result ∷ drop (c.loop-relation.relation-index + 1) c.args.mapping.now.rules.sources) c.loop-relation.tables
     c.loop-relation.left
@@ -48,7 +46,7 @@ loop-relation-preserved g c =
       keeps = keeps_both (device (holds c.args.shelf.now) (faults c.args.shelf.now))
           (device (holds c.loop-relation.shelf) (faults c.loop-relation.shelf))
           (device (holds c.fetch_table.new.shelf) (faults c.fetch_table.new.shelf)) before c.in_ok-facts.ensures.keeps;
-      goes_on = rw c.in_ok-push.ensures.ok (goes_on_more (holds c.args.shelf.now) c.args.command.now.source.now
+      goes_on = rw c.in_ok-push.ensures.ok (goes_on_more (holds c.args.shelf.now) c.args.source.now
           c.args.mapping.now.rules.sources (drop (c.loop-relation.relation-index + 1) c.args.mapping.now.rules.sources)
           c.relation-item.result c.loop-relation.tables c.loop-relation.left c.in_ok-facts.len c.in_ok-facts.facts
           (goes_on_here g (goal.at.loop-relation-preserved g c).After-relation-item) (rw before.same at c.in_ok-facts.ensures.reads));
@@ -81,26 +79,20 @@ pub returns-in_err-facts-clause-stops : goal.returns-in_err-facts-clause-stops
 returns-in_err-facts-clause-stops g c =
     let holds = g.S.Shelf.holds in
     let faults = g.S.Shelf.faults in
-    let command = command_of c.args.command.now in
-    let before = c.loop-relation.invariant.keeps in
-    let relation = c.relation-item.result in
     let p = err_from_is_err_and c.from_residual.result c.from_residual.ensures.1 in
-    rw (p.1, p.2) (λ built.
-    let comes : ComesIn (holds c.loop-relation.shelf) command relation c.loop-relation.left =
-    rw before.same (comes_next (holds c.args.shelf.now) command c.args.mapping.now
-    (drop (c.loop-relation.relation-index + 1) c.args.mapping.now.rules.sources) relation c.loop-relation.tables c.loop-relation.left
-    (goes_on_here g (goal.at.returns-in_err-facts-clause-stops g c).After-relation-item) built) in
-    stops_since (device (holds c.args.shelf.now) (faults c.args.shelf.now))
+    rw (p.1, p.2) (table_stops (device (holds c.args.shelf.now) (faults c.args.shelf.now))
     (device (holds c.loop-relation.shelf) (faults c.loop-relation.shelf))
-    (device (holds c.fetch_table.new.shelf) (faults c.fetch_table.new.shelf)) command c.in_err-facts.field-0.0
-    before c.in_err-facts.ensures.keeps (c.in_err-facts.ensures.stops comes))
+    (device (holds c.fetch_table.new.shelf) (faults c.fetch_table.new.shelf)) c.args.source.now c.args.mapping.now.rules.sources
+    (drop (c.loop-relation.relation-index + 1) c.args.mapping.now.rules.sources) c.relation-item.result c.loop-relation.tables
+    c.loop-relation.left c.in_err-facts.field-0.0 c.loop-relation.invariant.keeps c.in_err-facts.ensures.keeps
+    (goes_on_here g (goal.at.returns-in_err-facts-clause-stops g c).After-relation-item) c.in_err-facts.ensures.stops)
 
 pub returns-clause-reads : goal.returns-clause-reads
 returns-clause-reads g c =
     let sources = c.args.mapping.now.rules.sources in
     let are = relations_are g (goal.at.returns-clause-reads g c).After-as_slice-relation-items in
     let none = drop_all c.loop-relation.relation-index sources (rw are at c.loop-relation-test.false) in
-    goes_on_last (g.S.Shelf.holds c.args.shelf.now) c.args.command.now.source.now sources c.loop-relation.tables c.loop-relation.left
+    goes_on_last (g.S.Shelf.holds c.args.shelf.now) c.args.source.now sources c.loop-relation.tables c.loop-relation.left
     (rw none at c.loop-relation.invariant.goes_on)
 
 pub returns-clause-tables : goal.returns-clause-tables

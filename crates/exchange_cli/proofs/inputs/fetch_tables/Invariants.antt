@@ -12,7 +12,7 @@ invariant-loop-relation g l =
     let faults = g.S.Shelf.faults in
     record {
       keeps : Keeps (device (holds l.fn.shelf) (faults l.fn.shelf)) (device (holds l.shelf) (faults l.shelf));
-      goes_on : GoesOnIn (holds l.fn.shelf) l.command.source.now l.mapping.rules.sources
+      goes_on : GoesOnIn (holds l.fn.shelf) l.source l.mapping.rules.sources
           (drop l.relation-index l.mapping.rules.sources) l.tables l.left;
       read : AreRead (take l.relation-index l.mapping.rules.sources) l.tables;
     }

@@ -1,11 +1,10 @@
 -- What the exchange gives is, as it is stored, the target.
-use Rattle.std.proofs.Common.{◌≡◌, List, map, ap, subst}
-use Rattle.std.proofs.lemmas.Result.{IfOk-weaker}
+use Rattle.std.proofs.Common.{◌≡◌, List, map, ap, refl, subst, ◌∙◌}
 use Rattle.rule_core.specs.declared.rules.Relation.{Relation}
 use Rattle.rule_core.specs.Mapping.{RuleSet}
-use Rattle.exchange_cli.specs.Rendering.{AreRendered, stored_table}
+use Rattle.exchange_cli.specs.Rendering.{stored_table}
 use Rattle.exchange_cli.specs.Steps.{read_of}
-use Rattle.exchange_cli.specs.Target.{AreTableFiles, AreSolvedFiles}
+use Rattle.exchange_cli.specs.Target.{AreTableFiles}
 use Rattle.exchange_cli.proofs.solving.solve.Goals as goal
 
 pub returns : goal.returns
@@ -15,15 +14,21 @@ returns c =
     let solved = c.in_ok-solved.solved in
     let target = c.args.target.now in
     let from = c.in_ok-loaded.ensures in
+    let rendered = c.in_ok-render.ensures in
     let same : loaded.rules.targets ≡ inputs.mapping.rules.targets = ap (λ (r : RuleSet). r.targets) from.rules.2 in
-    IfOk-weaker c.render.result (AreRendered loaded.pool solved.nulls loaded.rules.targets solved.tables target) (AreSolvedFiles inputs target)
-    (λ files rendered. record {
-      tables = map (stored_table loaded.pool solved.nulls) solved.tables;
-      target = c.stored_tables_are_a_target.ensures inputs loaded solved from c.in_ok-solved.ensures;
-      stored = rendered.stored;
-      named =
-          subst (λ (relations : List Relation). AreTableFiles target relations rendered.stored
-          (map (stored_table loaded.pool solved.nulls) solved.tables)) same rendered.named;
-      all = rendered.all;
-    })
-    c.render.ensures
+    record {
+      groups = rendered.groups;
+      each = record {
+        tables = record {
+          tables = map (stored_table loaded.pool solved.nulls) solved.tables;
+          target = c.stored_tables_are_a_target.ensures inputs loaded solved from c.in_ok-solved.ensures;
+          each =
+              subst (λ (relations : List Relation). AreTableFiles target relations rendered.groups.tables
+              (map (stored_table loaded.pool solved.nulls) solved.tables)) same rendered.named;
+        };
+        verdict = rendered.verdict;
+      };
+      files = rendered.all;
+      found = refl;
+      line = c.from_vec.ensures ∙ c.in_ok-to_vec.ensures.items_if_clones_equal (λ x y e. e);
+    }

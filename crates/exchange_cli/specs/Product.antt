@@ -1,0 +1,30 @@
+-- What each command makes of what it read: the files that it stores, in their order, the line that it prints, and what it
+-- found, which gives its status.
+use Rattle.std.specs.Prelude.{◌≡◌, ℕ, List}
+use Rattle.exchange_cli.specs.Words.{Command, Exchange}
+use Rattle.exchange_cli.specs.Inputs.{Inputs}
+use Rattle.exchange_cli.specs.Files.{SolvedFiles, AreSolvedFiles, in_order}
+use Rattle.exchange_cli.specs.Endings.{status_found, printed_of}
+use Rattle.exchange_cli.specs.declared.ending.Finding.{Finding}
+use Rattle.exchange_cli.specs.declared.ending.Finding.TheVariants.{Solved}
+use Rattle.exchange_cli.specs.declared.product.Product.{Product}
+
+-- the product is a solved exchange: the files of a target of the inputs
+pub record IsSolved (inputs : Inputs) (prefix : List ℕ) (product : Product) : Type 0 where
+  pub groups : SolvedFiles
+  pub each : AreSolvedFiles inputs prefix groups
+  pub files : product.files ≡ in_order groups
+  pub found : product.finding ≡ Solved
+  pub line : product.line ≡ printed_of product.finding
+
+-- what a command promises of what it makes
+abbrev pub Makes : Command → Inputs → Product → Type 0
+Makes (Exchange origin target) inputs product = IsSolved inputs target product
+
+-- what a command may find
+abbrev pub IsFindingOf : Command → Finding → Type 0
+IsFindingOf (Exchange origin target) finding = finding ≡ Solved
+
+-- a status with which the command may end where all was done
+abbrev pub IsOwnStatus : Command → ℕ → Type 0
+IsOwnStatus command status = (finding : Finding) × IsFindingOf command finding × (status ≡ status_found finding)

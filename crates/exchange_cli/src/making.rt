@@ -1,0 +1,27 @@
+//! What each command makes of what it read.
+
+ghost use Rattle.std.specs.Prelude.{◌+◌, ◌<◌, ◌-◌, ◌^◌, IfOk, length};
+ghost use Rattle.exchange_engine.specs.Loading.{AreTablesOf, cell_count};
+ghost use Rattle.exchange_cli.specs.Built.{Takes};
+ghost use Rattle.exchange_cli.specs.Commands.{command_of};
+ghost use Rattle.exchange_cli.specs.Product.{Makes};
+ghost use Rattle.exchange_cli.specs.Steps.{read_of};
+
+use crate::command::Command;
+use crate::inputs::Inputs;
+use crate::product::Product;
+use crate::solving::solve;
+use std::alloc::Global;
+use term_core::Memory;
+
+/// What the command makes of what it read. Nothing is stored or printed here.
+pub fn make(alloc: Global, command: &Command<'_>, inputs: Inputs) -> Result<Product, Memory>
+    requires taken { Takes (command_of command.now) inputs.mapping.rules }
+    requires tables { AreTablesOf inputs.mapping.rules.sources inputs.tables }
+    requires few { length inputs.mapping.pool + cell_count inputs.tables < 2 ^ 32 - 1 }
+    ensures { IfOk result (Makes (command_of command.now) (read_of inputs)) }
+{
+    match command {
+        Command::Exchange(_, target) => solve(alloc, target, inputs),
+    }
+}
