@@ -62,18 +62,7 @@ fn copies_of(alloc: Global, unknowns: &[&Unknown]) -> Result<Items<Unknown>, Mem
     let mut copies = Items::new(alloc);
     copies.room(unknowns.len())?;
     for unknown in unknowns {
-        copies.push(copy(alloc, unknown)?)?;
+        copies.push(unknown.copy(alloc)?)?;
     }
     Ok(copies)
-}
-
-// The same unknown in memory of its own.
-fn copy(alloc: Global, unknown: &Unknown) -> Result<Unknown, Memory>
-    ensures { IfOk result (λ copied. copied ≡ unknown.now) }
-{
-    Ok(Unknown {
-        rule: unknown.rule,
-        frontier: Items::from_vec(unknown.frontier.as_slice().to_vec(alloc)?),
-        var: unknown.var,
-    })
 }
