@@ -1,13 +1,28 @@
 -- The unknowns of tables as they are gathered, and once they are sorted.
-use Rattle.std.proofs.Common.{◌≡◌, true, List, [], ◌∷◌, ◌++◌, refl, sym, subst, inl, inr, ⊎_elim, Any, Contains, arith}
+use Rattle.std.proofs.Common.{◌≡◌, ◌∙◌, true, List, [], ◌∷◌, ◌++◌, map, refl, sym, subst, inl, inr, ⊎_elim, Any, Contains, arith}
+use Rattle.std.specs.Borrow.{Bor}
 use Rattle.std.specs.declared.cmp.Ordering.{Ordering}
 use Rattle.std.specs.declared.cmp.Ordering.TheVariants.{Less, Equal, Greater}
-use Rattle.std.specs.Ordering.{is_eq}
+use Rattle.std.specs.Ordering.{is_eq, eq_by_cmp, on}
+use Rattle.std.specs.Cmp.{IsEquivalence, on_equiv, on_total}
+use Rattle.std.specs.Prelude.{Bool, IsPermutation, IsSorted}
+use Rattle.std.specs.List.{dedup}
+use Rattle.std.proofs.lemmas.List.Kept.{Any-dedup, Contains-from_dedup, IsStrictlySortedBy-dedup}
+use Rattle.std.proofs.lemmas.List.Sorted.{Contains-permutation, IsPermutation-sym}
+use Rattle.std.proofs.lemmas.Map.Keys.{Less-from_sorted}
 use Rattle.std.proofs.lemmas.List.Elements.{Contains-append_left, Contains-push, Contains-push_cases}
 use Rattle.term_core.specs.declared.term.Term.{Term}
 use Rattle.term_core.specs.declared.term.Term.TheVariants.{Null}
 use Rattle.term_core.specs.declared.term.Unknown.{Unknown as HeldUnknown}
+use Rattle.term_core.specs.Order.{unknown_cmp}
+use Rattle.term_core.proofs.OrderLemmas.{unknown_cmp-total, unknown_cmp-IsAntisymmetric}
+use Rattle.rule_core.proofs.ListLemmas.{Contains-nil, Contains-map, Contains-from_map, AllPairs-map}
+use Rattle.exchange_engine.specs.Solved.{TermTable, IsUnknownOf, AreUnknownsOf}
 use Rattle.exchange_engine.specs.Grouped.{IsUnknownIn, AddsUnknowns}
+
+-- what references refer to
+abbrev pub held : List (Bor HeldUnknown) → List HeldUnknown
+held refs = map (λ u. u.now) refs
 
 -- nothing is added for an empty list
 pub none_of : {X : Type 0} (Has : X → HeldUnknown → Type 0) (found : List HeldUnknown)
@@ -57,7 +72,38 @@ more_in terms term a b c old new u = (
       d),
 )
 
-pub eq_equal : (r : Ordering) → is_eq r ≡ true → r ≡ Equal
+eq_equal : (r : Ordering) → is_eq r ≡ true → r ≡ Equal
 eq_equal Less e = absurd cc
 eq_equal Equal e = refl
 eq_equal Greater e = absurd cc
+
+-- of references in order, each once, what they refer to
+module _ (E : HeldUnknown → HeldUnknown → Bool) (equivalence : IsEquivalence E)
+    (ties : (x y : HeldUnknown) → E x y ≡ eq_by_cmp unknown_cmp x y) where
+  pub sorted_once : (tables : List TermTable) (gathered sorted : List (Bor HeldUnknown)) → AddsUnknowns (IsUnknownOf tables) [] (held gathered)
+      → IsPermutation gathered sorted → IsSorted (on (λ u. u.now) unknown_cmp) sorted
+      → AreUnknownsOf tables (held (dedup (on (λ u. u.now) E) sorted))
+  sorted_once tables gathered sorted are moved order = record {
+    each = λ u. (
+      λ d.
+          let ref = Contains-from_map now once u d in
+          let there = Contains-permutation _ _ ref.0 (IsPermutation-sym _ _ moved) (Contains-from_dedup (on now E) sorted ref.0 ref.1) in
+          let has = subst (Contains (held gathered)) ref.2 (Contains-map now gathered ref.0 there) in
+          ⊎_elim (λ (none : Contains [] u). absurd (Contains-nil u none)) (λ (k : IsUnknownOf tables u). k) ((are u).0 has),
+      λ k.
+          let ref = Contains-from_map now gathered u ((are u).1 (inr k)) in
+          let kept = Any-dedup (on_equiv now equivalence) sorted ref.0 (Contains-permutation _ _ ref.0 moved ref.1) in
+          let same : ref.0.now ≡ kept.1.now =
+          unknown_cmp-IsAntisymmetric ref.0.now kept.1.now (eq_equal _ (sym (ties ref.0.now kept.1.now) ∙ kept.4)) in
+          subst (Contains (held once)) (sym same ∙ ref.2) (Contains-map now once kept.1 (kept.0, kept.2, kept.3)),
+    );
+    ascending = AllPairs-map (λ u w. unknown_cmp u w ≡ Less) now once (λ i j d before within.
+        Less-from_sorted (on now unknown_cmp) once i j d
+        (IsStrictlySortedBy-dedup (on_total now unknown_cmp-total) (λ x y. ties x.now y.now) sorted order) before within);
+  }
+    where
+      now : Bor HeldUnknown → HeldUnknown
+      now u = u.now
+
+      once : List (Bor HeldUnknown)
+      once = dedup (on now E) sorted

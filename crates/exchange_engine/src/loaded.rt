@@ -30,7 +30,7 @@ impl Model for Loaded {
 
 impl Loaded {
     /// The fact that the type keeps.
-    pub fn has_each_constant(&self)
+    pub fn is_kept(&self)
         ensures { HasEachConstant self.now }
     {
         let _ = &self.rules;

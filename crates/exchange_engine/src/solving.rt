@@ -29,7 +29,7 @@ pub fn exchange<L: Ledger>(
     ensures within { IfOk result (λ o. IfSolved o (λ s. AreWithinPool loaded.now s.tables)) }
     ensures counts { IfOk result (λ o. IfSolved o (λ s. AreCountsOf loaded.now s.counts)) }
 {
-    loaded.has_each_constant();
+    loaded.is_kept();
     loaded.rules.is_kept();
     rows_of_a_table_are_its_facts();
     solutions_are_what_firing_facts_map_into();

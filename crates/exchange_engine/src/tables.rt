@@ -29,6 +29,7 @@ pub fn tables_of<L: Ledger>(
 {
     let lists = lists_of(alloc, store, relations, steps)?;
     let mut tables = Items::new(alloc);
+    tables.room(relations)?;
     for list in lists {
         tables.push(coalesce(alloc, list)?)?;
     }
@@ -46,23 +47,62 @@ fn lists_of<L: Ledger>(
     ensures size { IfOk result (λ lists. length lists.items ≡ relations) }
     ensures facts { IfOk result (λ lists. HaveFacts (facts_in store.now) lists.items) }
 {
-    let mut lists = empty_lists(alloc, relations)?;
+    let mut lists = empty_lists(alloc, store, relations)?;
     for row in 0..store.bound() {
         add_row(alloc, store, row, &mut lists, steps)?;
     }
     Ok(lists)
 }
 
-// So many lists with no row.
-fn empty_lists(alloc: Global, count: usize) -> Result<Vec<Items<Stamped>>, Memory>
-    ensures size { IfOk result (λ lists. length lists.items ≡ count) }
+// A list with no row for each relation, with room for the rows of the store.
+fn empty_lists(
+    alloc: Global,
+    store: &NullStore,
+    relations: usize,
+) -> Result<Vec<Items<Stamped>>, Memory>
+    requires { AreBelow relations store.now }
+    ensures size { IfOk result (λ lists. length lists.items ≡ relations) }
     ensures empty { IfOk result (λ lists. All (λ list. list ≡ []) lists.items) }
 {
+    let counts = row_counts(alloc, store, relations)?;
     let mut lists = Items::new(alloc);
-    for _ in 0..count {
-        lists.push(Items::new(alloc))?;
+    lists.room(relations)?;
+    for count in &counts {
+        lists.push(empty_list(alloc, *count)?)?;
     }
     Ok(lists.into_vec())
+}
+
+// No row, with room for so many.
+fn empty_list(alloc: Global, room: usize) -> Result<Items<Stamped>, Memory>
+    ensures { IfOk result (λ list. list ≡ []) }
+{
+    let mut list = Items::new(alloc);
+    list.room(room)?;
+    Ok(list)
+}
+
+// How many rows each relation has.
+fn row_counts(alloc: Global, store: &NullStore, relations: usize) -> Result<Vec<usize>, Memory>
+    requires { AreBelow relations store.now }
+    ensures { IfOk result (λ counts. length counts.items ≡ relations) }
+{
+    let mut counts = vec![in alloc; 0; relations]?;
+    for row in 0..store.bound() {
+        count_row(store, row, &mut counts);
+    }
+    Ok(counts)
+}
+
+// Counts the row with the number, if there is one, for its relation.
+fn count_row(store: &NullStore, row: usize, counts: &mut Vec<usize>)
+    requires { IfSome (row_at store.now.rows row) (λ seen. seen.relation < length counts.old.items) }
+    ensures { length counts.new.items ≡ length counts.old.items }
+{
+    if let Some(head) = store.head(row) {
+        let count = &mut counts[head.relation as usize];
+        *count = count.saturating_add(1);
+    }
 }
 
 // Adds the row with the number, if there is one, to the list of its relation.
@@ -97,6 +137,7 @@ fn row_of<L: Ledger>(
         (λ seen. IsRowOf store.now seen entry)) }
 {
     let mut terms = Items::new(alloc);
+    terms.room(head.arity)?;
     for column in 0..head.arity {
         terms.push(term_at(store, row, column, steps)?)?;
     }

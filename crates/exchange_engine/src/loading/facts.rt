@@ -38,6 +38,7 @@ fn add_table(
     requires { All (λ raw. All (Contains pool.now) raw.row) table.now }
     ensures { OnOk result (Adds pool.now facts.old facts.new (raw_facts relation table.now)) }
 {
+    facts.room(table.len())?;
     for raw in table {
         facts.push(numbered_fact(alloc, pool, relation, raw)?)?;
     }
@@ -64,6 +65,7 @@ fn numbers_of(alloc: Global, pool: &Pool, cells: &[Text]) -> Result<Items<ConstI
     ensures within { IfOk result (λ ids. All (λ c. c.0 < length pool.now) ids) }
 {
     let mut ids = Items::new(alloc);
+    ids.room(cells.len())?;
     for cell in cells {
         ids.push(number_of(pool, cell.as_str()))?;
     }

@@ -18,7 +18,7 @@ tables_of-requires g c =
     let rows : List TargetFact = facts_in c.in_ok-fired.fired.store in
     let size : c.len-relations.result ≡ length rules.targets = c.len-relations.ensures ∙ ap length c.targets.ensures in
     subst (λ (n : ℕ). All (λ (fact : TargetFact). fact.row.relation < n) rows) (sym size)
-    (rows_below rules c.is_kept.ensures c.in_ok-fired.fired.firings rows c.in_ok-fired.ensures.rows)
+    (rows_below rules c.is_kept-2.ensures c.in_ok-fired.fired.firings rows c.in_ok-fired.ensures.rows)
 
 -- what has come of the mapping and the source
 chased : (g : _) (c : In_ok-tables g)
@@ -28,7 +28,7 @@ chased g c =
     let size : c.len-relations.result ≡ length rules.targets = c.len-relations.ensures ∙ ap length c.targets.ensures in
     let rows : List TargetFact = facts_in c.in_ok-fired.fired.store in
     subst (λ (l : LoadedOf). IsChased l c.in_ok-pieces.pieces rows c.in_ok-tables.tables) c.loaded.view_is (record {
-      valid = c.is_kept.ensures;
+      valid = c.is_kept-2.ensures;
       same = c.in_ok-pieces.ensures.same;
       hold = c.in_ok-fired.ensures.facts;
       size = c.in_ok-tables.ensures.size ∙ size;
@@ -39,27 +39,27 @@ chased g c =
 pub returns-clause-tables : goal.returns-clause-tables
 returns-clause-tables g c =
     let at = (goal.at.returns-clause-tables g c).In_ok-tables in
-    are_wide c.args.loaded.now c.has_each_constant.ensures (c.rows_of_a_table_are_its_facts.ensures c.args.loaded.now.table)
+    are_wide c.args.loaded.now c.is_kept.ensures (c.rows_of_a_table_are_its_facts.ensures c.args.loaded.now.table)
     c.in_ok-pieces.pieces (facts_in c.in_ok-fired.fired.store) c.in_ok-tables.tables (chased g at)
 
 pub returns-clause-universal : goal.returns-clause-universal
 returns-clause-universal g c =
     let at = (goal.at.returns-clause-universal g c).In_ok-tables in
-    universal c.args.loaded.now c.has_each_constant.ensures (c.rows_of_a_table_are_its_facts.ensures c.args.loaded.now.table)
+    universal c.args.loaded.now c.is_kept.ensures (c.rows_of_a_table_are_its_facts.ensures c.args.loaded.now.table)
     c.in_ok-pieces.pieces (facts_in c.in_ok-fired.fired.store) c.in_ok-tables.tables (chased g at) c.requires.egds
     c.solutions_are_what_firing_facts_map_into.ensures.numbers
 
 pub returns-clause-made : goal.returns-clause-made
 returns-clause-made g c =
     let at = (goal.at.returns-clause-made g c).In_ok-tables in
-    are_made c.args.loaded.now c.has_each_constant.ensures (c.rows_of_a_table_are_its_facts.ensures c.args.loaded.now.table)
+    are_made c.args.loaded.now c.is_kept.ensures (c.rows_of_a_table_are_its_facts.ensures c.args.loaded.now.table)
     c.in_ok-pieces.pieces (facts_in c.in_ok-fired.fired.store) c.in_ok-tables.tables (chased g at) c.in_ok-nulls.nulls
     (subst (λ (l : List TermTable). AreUnknownsOf l c.in_ok-nulls.nulls) c.as_slice.ensures c.in_ok-nulls.ensures)
 
 pub returns-clause-within : goal.returns-clause-within
 returns-clause-within g c =
     let at = (goal.at.returns-clause-within g c).In_ok-tables in
-    are_within c.args.loaded.now c.has_each_constant.ensures (c.rows_of_a_table_are_its_facts.ensures c.args.loaded.now.table)
+    are_within c.args.loaded.now c.is_kept.ensures (c.rows_of_a_table_are_its_facts.ensures c.args.loaded.now.table)
     c.in_ok-pieces.pieces (facts_in c.in_ok-fired.fired.store) c.in_ok-tables.tables (chased g at)
 
 pub returns-clause-counts : goal.returns-clause-counts

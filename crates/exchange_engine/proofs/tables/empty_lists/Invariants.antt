@@ -1,6 +1,6 @@
--- There are as many lists as turns, and none has a row.
+-- There are as many lists as counts so far, and none has a row.
 use Rattle.std.proofs.Common.{◌≡◌, [], length, All}
 use Rattle.exchange_engine.proofs.tables.empty_lists.Given as goal
 
-abbrev pub invariant-loop : goal.invariant-loop
-invariant-loop l = record { size : length l.lists ≡ l.counter; empty : All (λ list. list ≡ []) l.lists }
+abbrev pub invariant-loop-count : goal.invariant-loop-count
+invariant-loop-count l = record { size : length l.lists ≡ l.count-index; empty : All (λ list. list ≡ []) l.lists }

@@ -1,4 +1,4 @@
-use Rattle.std.proofs.Common.{◌+◌, List, sym, subst}
+use Rattle.std.proofs.Common.{◌+◌, List, sym, ◌∙◌, subst}
 use Rattle.std.specs.Prelude.{IsSomeAnd}
 use Rattle.term_core.specs.declared.term.Term.{Term}
 use Rattle.fact_table.specs.Rows.{row_at}
@@ -10,7 +10,7 @@ loop-column-init g c =
     let store = c.args.store.now in
     let number = c.args.row in
     subst (λ (terms : List Term). IsSomeAnd (row_at store.rows number) (AreFirstTerms store number 0 terms))
-    (sym c.new-terms.ensures)
+    (sym (c.room.ensures ∙ c.new-terms.ensures))
     (terms_none store c.args.row c.args.head.now c.requires)
 
 pub loop-column-preserved : goal.loop-column-preserved

@@ -1,13 +1,15 @@
-use Rattle.std.proofs.Common.{[], ◌∷◌, length, take, refl, sym, subst, arith, All, Contains}
+use Rattle.std.proofs.Common.{List, [], ◌∷◌, length, take, refl, sym, subst, arith, All, Contains}
 use Rattle.std.proofs.lemmas.List.{take_all}
 use Rattle.std.proofs.lemmas.Option.{slice_get_read}
+use Rattle.fact_table.specs.declared.fact.Fact.{Fact}
 use Rattle.exchange_engine.specs.Gathered.{Adds, raw_fact, raw_facts}
 use Rattle.exchange_engine.proofs.GatheredLemmas.{All-at}
 use Rattle.exchange_engine.proofs.FactLemmas.{Adds-none, Adds-fact, Adds-more, raw_facts-more}
 use Rattle.exchange_engine.proofs.loading.facts.add_table.Goals as goal
 
 pub loop-raw-init : goal.loop-raw-init
-loop-raw-init c = Adds-none c.args.pool.now c.args.facts.now
+loop-raw-init c =
+    subst (λ (l : List Fact). Adds c.args.pool.now c.args.facts.now l []) (sym c.in_ok-room.ensures) (Adds-none c.args.pool.now c.args.facts.now)
 
 pub numbered_fact-requires : goal.numbered_fact-requires
 numbered_fact-requires c =

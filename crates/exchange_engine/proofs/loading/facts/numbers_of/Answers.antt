@@ -1,9 +1,6 @@
-use Rattle.std.proofs.Common.{◌<◌, Some, length, map, refl, sym, ap, ◌∙◌, subst, arith, Contains}
-use Rattle.std.proofs.lemmas.List.{map-append, map_push}
-use Rattle.std.proofs.lemmas.List.Elements.{All-push}
+use Rattle.std.proofs.Common.{length, refl, sym, subst, arith, Contains}
 use Rattle.std.proofs.lemmas.Option.{slice_get_read}
-use Rattle.exchange_engine.specs.Loading.{text_in}
-use Rattle.exchange_engine.proofs.GatheredLemmas.{All-at, front_more}
+use Rattle.exchange_engine.proofs.GatheredLemmas.{All-at}
 use Rattle.exchange_engine.proofs.loading.facts.numbers_of.Goals as goal
 
 pub number_of-requires : goal.number_of-requires

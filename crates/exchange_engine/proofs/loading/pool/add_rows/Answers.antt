@@ -1,4 +1,4 @@
-use Rattle.std.proofs.Common.{◌≡◌, List, Contains, length, refl, subst, arith}
+use Rattle.std.proofs.Common.{◌≡◌, Contains, length, refl, subst, arith}
 use Rattle.std.proofs.lemmas.Option.{slice_get_read}
 use Rattle.exchange_engine.specs.Gathered.{Gains}
 use Rattle.exchange_engine.proofs.GatheredLemmas.{Gains-element, Gains-elements}
