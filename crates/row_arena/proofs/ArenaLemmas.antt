@@ -5,12 +5,13 @@ use Rattle.std.specs.Option.{option_map}
 use Rattle.std.proofs.lemmas.Bool.{cases_lt, cases_eq}
 use Rattle.std.proofs.lemmas.List.{get_or_past, get_or-set_same, get_or-set_other}
 use Rattle.std.proofs.lemmas.List.FromFn.{get_or-map-range_with_len, length-map-range_with_len}
+use Rattle.slab.specs.Slab.{Slab, Updates}
 use Rattle.term_core.specs.declared.term.Seen.{Seen}
 use Rattle.row_arena.specs.declared.cell.Cell.{Cell}
 use Rattle.row_arena.specs.declared.held.HeldRow.{HeldRow}
 use Rattle.row_arena.specs.declared.held.TheConstants.{MOST_COLUMNS}
 use Rattle.row_arena.specs.Arena.{RowOf, StandsAt, IsArena}
-use Rattle.row_arena.specs.Layout.{at, row_of, held_in, rows_of, cell_for, AddsCells}
+use Rattle.row_arena.specs.Layout.{at, row_of, held_in, rows_of, cell_for, AddsCells, TakesCells, AreInPlace}
 use Rattle.row_arena.proofs.LookUpLemmas.{some_and, and_some, same_some, written_here, written_else}
 
 -- the row that callers see under a number is the one that is held there
@@ -196,3 +197,47 @@ module _ (old mid new : List (Option Cell)) (number : ℕ) (values : List Seen) 
         (adds.only id c (sym (else_same id differ) ∙ e)))
         (cases_eq id key);
   }
+
+-- one cell of a row less
+module _ (old : List (Option Cell)) (mid new : Slab Cell) (held : HeldRow) (n : ℕ) (takes : TakesCells old mid.slots held.ids n)
+    (places : AreInPlace mid.slots held n) (inside : n < held.head.arity)
+    (updates : Updates mid new (get_or held.ids n 0) None) where
+  abbrev key : ℕ
+  key = get_or held.ids n 0
+
+  gone_or_other : (id : ℕ) → (at new.slots id ≡ None) ⊎ ((id ≢ key) × (at new.slots id ≡ at mid.slots id))
+  gone_or_other id = ⊎_elim
+      (λ (same : id ≡ key). inl (ap (at new.slots) same ∙ updates.changed))
+      (λ differ. inr (differ, updates.others id differ))
+      (cases_eq id key)
+
+  pub fewer_taken : TakesCells old new.slots held.ids (n + 1)
+  fewer_taken = record {
+    gone = λ column l. ⊎_elim
+        (λ (none : at new.slots (get_or held.ids column 0) ≡ None). none)
+        (λ (other : (get_or held.ids column 0 ≢ key) × (at new.slots (get_or held.ids column 0) ≡ at mid.slots (get_or held.ids column 0))).
+        ⊎_elim
+        (λ (b : column < n). other.1 ∙ takes.gone column b)
+        (λ (g : n ≤ column). let same : column ≡ n = omega (arith, l, g) in absurd (other.0 (ap (λ k. get_or held.ids k 0) same)))
+        (cases_lt column n))
+        (gone_or_other (get_or held.ids column 0));
+    kept = λ id c e never.
+        let last : n < n + 1 = omega arith in
+        updates.others id (λ same. never n last (sym same))
+        ∙ takes.kept id c e (λ column l. never column (omega (arith, l)));
+    only = λ id c e. ⊎_elim
+        (λ (none : at new.slots id ≡ None). let clash : None ≡ Some c = sym none ∙ e in absurd cc)
+        (λ (other : (id ≢ key) × (at new.slots id ≡ at mid.slots id)). takes.only id c (sym other.1 ∙ e))
+        (gone_or_other id);
+  }
+
+  pub fewer_places : AreInPlace new.slots held (n + 1)
+  fewer_places column l m =
+      let id = get_or held.ids column 0 in
+      let cell = some_and (λ (c : Cell). c.column ≡ column) (at mid.slots id) (places column (omega (arith, l)) m) in
+      let first = some_and (λ (c : Cell). c.column ≡ n) (at mid.slots key) (places n (omega arith) inside) in
+      let differ : id ≢ key = λ same.
+      let its = same_some (at mid.slots key) cell.0 first.0 (sym (ap (at mid.slots) same) ∙ cell.1) first.1 in
+      let columns = sym cell.2 ∙ ap (λ (c : Cell). c.column) its ∙ first.2 in
+      omega (arith, l, columns) in
+      and_some (λ (c : Cell). c.column ≡ column) (at new.slots id) cell.0 (updates.others id differ ∙ cell.1) cell.2

@@ -15,8 +15,8 @@ use Rattle.row_arena.specs.declared.cell.Cell.{Cell}
 use Rattle.row_arena.specs.declared.held.HeldRow.{HeldRow}
 use Rattle.row_arena.specs.declared.held.TheConstants.{MOST_COLUMNS}
 use Rattle.row_arena.specs.Arena.{RowOf, Arena, row_in, cell_in, head_of, HasRow, HasColumn, StandsAt, IsArena}
-use Rattle.row_arena.specs.Changes.{AddsRow, SetsSpan, new_cell}
-use Rattle.row_arena.specs.Layout.{at, row_of, held_in, arena_of, IsHeld, IsSound, cell_for, AddsCells}
+use Rattle.row_arena.specs.Changes.{AddsRow, SetsSpan, TakesRow, new_cell}
+use Rattle.row_arena.specs.Layout.{at, row_of, held_in, arena_of, IsHeld, IsSound, cell_for, AddsCells, TakesCells, AreInPlace}
 use Rattle.row_arena.proofs.LookUpLemmas.{some_and, and_some, same_some, is_there, there_is, inside, written_here, written_else, taken_at, at_taken}
 use Rattle.row_arena.proofs.ArenaLemmas.{row_seen, held_row, kept_rows, arena_grown}
 
@@ -247,3 +247,94 @@ module _ (rows : Slab HeldRow) (bound : ℕ) (cells : Slab Cell) (sound : IsSoun
           spare_rows = omega (arith, some, row_count, row_capacity);
           spare_cells = omega (arith, room, cell_count, cell_capacity);
         }
+
+  -- a row is taken away, and its cells
+  module _ (later : Slab HeldRow) (after : Slab Cell) (number : ℕ) (held : HeldRow) (is : at rows.slots number ≡ Some held)
+      (updates : Updates rows later number None) (takes : TakesCells cells.slots after.slots held.ids held.head.arity) where
+    held_is : IsHeld held
+    held_is = sound.held number held is
+
+    its_front : held.head.arity ≤ length held.ids
+    its_front = omega (arith, held_is.size, held_is.arity)
+
+    its_row_was : held_in rows.slots number ≡ Some (row_of held)
+    its_row_was = ap (option_map row_of) is
+
+    -- a cell that is left is in another row
+    left_elsewhere : (id : ℕ) (c : Cell) → at after.slots id ≡ Some c → c.row ≢ number
+    left_elsewhere id c e same =
+        let r = some_and (λ (r : RowOf). slice_get r.cells c.column ≡ Some id) (held_in rows.slots c.row)
+        (sound.arena.placed id c (takes.only id c e)) in
+        let its = same_some (held_in rows.slots number) r.0 (row_of held) (sym (ap (held_in rows.slots) same) ∙ r.1) its_row_was in
+        let place = taken_at held.head.arity held.ids c.column id its_front (sym (ap (λ (w : RowOf). slice_get w.cells c.column) its) ∙ r.2) in
+        let clash : None ≡ Some c = sym (takes.gone c.column place.0) ∙ ap (at after.slots) place.1 ∙ e in
+        cc
+
+    -- a cell of another row is left
+    elsewhere_left : (id : ℕ) (c : Cell) → at cells.slots id ≡ Some c → c.row ≢ number → at after.slots id ≡ Some c
+    elsewhere_left id c e differ = takes.kept id c e (λ column l same.
+        let its = some_and (λ (d : Cell). StandsAt d number column) (at cells.slots id)
+        (sound.arena.columns number (row_of held) its_row_was column id (at_taken held.head.arity held.ids column its_front l ∙ ap Some same)) in
+        differ (ap (λ (d : Cell). d.row) (same_some (at cells.slots id) c its.0 e its.1) ∙ its.2.row))
+
+    same_rows : (n : ℕ) → n ≢ number → held_in later.slots n ≡ held_in rows.slots n
+    same_rows n differ = ap (option_map row_of) (updates.others n differ)
+
+    -- a row that is left was there
+    row_left : (n : ℕ) (w : HeldRow) → at later.slots n ≡ Some w → (n ≢ number) × (at rows.slots n ≡ Some w)
+    row_left n w e =
+        let differ : n ≢ number = λ same. (let clash : None ≡ Some w = sym updates.changed ∙ sym (ap (at later.slots) same) ∙ e in cc) in
+        (differ, sym (updates.others n differ) ∙ e)
+
+    seen_left : (n : ℕ) (r : RowOf) → held_in later.slots n ≡ Some r → (n ≢ number) × (held_in rows.slots n ≡ Some r)
+    seen_left n r e =
+        let w = held_row (at later.slots n) r e in
+        let was = row_left n w.0 w.1 in
+        (was.0, ap (option_map row_of) was.1 ∙ ap Some w.2)
+
+    pub taken_sound : IsSound later.slots bound after.slots
+    taken_sound = record {
+      arena = record {
+        few = λ n r e. sound.arena.few n r (seen_left n r e).1;
+        columns = λ n r e column id f.
+            let was = seen_left n r e in
+            let c = some_and (λ (c : Cell). StandsAt c n column) (at cells.slots id) (sound.arena.columns n r was.1 column id f) in
+            and_some (λ (c : Cell). StandsAt c n column) (at after.slots id) c.0
+            (elsewhere_left id c.0 c.1 (λ same. was.0 (sym c.2.row ∙ same))) c.2;
+        placed = λ id c e.
+            subst (λ (o : Option RowOf). IsSomeAnd o (λ r. slice_get r.cells c.column ≡ Some id))
+            (sym (same_rows c.row (left_elsewhere id c e))) (sound.arena.placed id c (takes.only id c e));
+      };
+      below = λ n w e. sound.below n w (row_left n w e).1;
+      held = λ n w e. sound.held n w (row_left n w e).1;
+    }
+
+    pub takes_row : slab_len later + 1 ≡ slab_len rows → slab_len later + 1 ≤ later.capacity → later.capacity ≡ rows.capacity
+        → slab_len after + held.head.arity ≡ slab_len cells → slab_len cells ≤ cells.capacity → after.capacity ≡ cells.capacity
+        → TakesRow arena (arena_of later bound after) number
+    takes_row row_count row_room row_capacity cell_count cell_room cell_capacity =
+        let shown : (n : ℕ) → row_in (arena_of later bound after) n ≡ held_in later.slots n =
+        row_seen later.slots bound taken_sound.below in
+        record {
+          row = shown number ∙ ap (option_map row_of) updates.changed;
+          rows = λ n differ. shown n ∙ same_rows n differ ∙ sym (seen n);
+          bound = length-map-range_with_len (held_in later.slots) 0 bound ∙ sym (length-map-range_with_len (held_in rows.slots) 0 bound);
+          gone = left_elsewhere;
+          cells = elsewhere_left;
+          only = takes.only;
+          spare_rows = omega (arith, row_count, row_room, row_capacity);
+          spare_cells = and_some
+              (λ (r : RowOf). after.capacity - slab_len after ≡ (cells.capacity - slab_len cells) + length r.cells)
+              (row_in arena number) (row_of held) (seen number ∙ its_row_was)
+              (omega (arith, cell_count, cell_room, cell_capacity, arity_of held held_is));
+        }
+
+  -- the cells of a row that is held are in place
+  pub in_place : (number : ℕ) (held : HeldRow) → at rows.slots number ≡ Some held → AreInPlace cells.slots held 0
+  in_place number held is column _ l =
+      let id = get_or held.ids column 0 in
+      let h = sound.held number held is in
+      let c = some_and (λ (c : Cell). StandsAt c number column) (at cells.slots id)
+      (sound.arena.columns number (row_of held) (ap (option_map row_of) is) column id
+      (at_taken held.head.arity held.ids column (omega (arith, h.size, h.arity)) l)) in
+      and_some (λ (c : Cell). c.column ≡ column) (at cells.slots id) c.0 c.1 c.2.column

@@ -63,6 +63,7 @@ pub record SetsSpan (old new : Arena) (number : ℕ) (span : Ends) : Type 0 wher
 pub record TakesRow (old new : Arena) (number : ℕ) : Type 0 where
   pub row : row_in new number ≡ None
   pub rows : (other : ℕ) → other ≢ number → row_in new other ≡ row_in old other
+  pub bound : length new.rows ≡ length old.rows
   pub gone : (id : ℕ) (cell : Cell) → cell_in new id ≡ Some cell → cell.row ≢ number
   pub cells : (id : ℕ) (cell : Cell) → cell_in old id ≡ Some cell → cell.row ≢ number → cell_in new id ≡ Some cell
   pub only : (id : ℕ) (cell : Cell) → cell_in new id ≡ Some cell → cell_in old id ≡ Some cell

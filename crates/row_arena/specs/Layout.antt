@@ -1,5 +1,5 @@
 -- How a `RowArena` lays out its rows and cells. No public clause cites this module.
-use Rattle.std.specs.Prelude.{◌≡◌, ◌⊎◌, ℕ, ◌-◌, ◌<◌, ◌≤◌, List, Option, Some, None, length, map, take, slice_index_or}
+use Rattle.std.specs.Prelude.{◌≡◌, ◌≢◌, ◌⊎◌, ℕ, ◌-◌, ◌<◌, ◌≤◌, List, Option, Some, None, IsSomeAnd, length, map, take, slice_index_or}
 use Rattle.std.specs.List.{range_with_len}
 use Rattle.std.specs.Option.{option_map}
 use Rattle.slab.specs.Slab.{Slab, slab_len}
@@ -58,3 +58,15 @@ pub record AddsCells (old new : List (Option Cell)) (number : ℕ) (values : Lis
   pub kept : (id : ℕ) (cell : Cell) → at old id ≡ Some cell → at new id ≡ Some cell
   pub only : (id : ℕ) (cell : Cell) → at new id ≡ Some cell → (at old id ≡ Some cell)
       ⊎ ((column : ℕ) × (column < n) × (slice_index_or ids column 0 ≡ id) × (cell ≡ cell_for number values column))
+
+-- the row's cells from the k-th column on are there, each in its column
+abbrev pub AreInPlace : List (Option Cell) → HeldRow → ℕ → Type 0
+AreInPlace cells held k = (column : ℕ) → k ≤ column → column < held.head.arity
+    → IsSomeAnd (at cells (slice_index_or held.ids column 0)) (λ cell. cell.column ≡ column)
+
+-- the cells of the first n columns of a row are gone, and no other
+pub record TakesCells (old new : List (Option Cell)) (ids : List ℕ) (n : ℕ) : Type 0 where
+  pub gone : (column : ℕ) → column < n → at new (slice_index_or ids column 0) ≡ None
+  pub kept : (id : ℕ) (cell : Cell) → at old id ≡ Some cell
+      → ((column : ℕ) → column < n → slice_index_or ids column 0 ≢ id) → at new id ≡ Some cell
+  pub only : (id : ℕ) (cell : Cell) → at new id ≡ Some cell → at old id ≡ Some cell

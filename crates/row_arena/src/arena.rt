@@ -4,8 +4,8 @@ ghost use Rattle.std.specs.Prelude.{◌≡◌, ℕ, ◌+◌, ◌-◌, ◌^◌, �
 ghost use Rattle.std.specs.Option.{option_map};
 ghost use Rattle.slab.specs.Slab.{slab_len};
 ghost use Rattle.row_arena.specs.Arena.{IsArena, HasRow, HasCell, HasColumn, StandsAt, row_in, cell_in, head_of};
-ghost use Rattle.row_arena.specs.Changes.{IsEmpty, HoldsSame, AddsRow, SetsSpan, with_content, with_after};
-ghost use Rattle.row_arena.specs.Layout.{AddsCells};
+ghost use Rattle.row_arena.specs.Changes.{IsEmpty, HoldsSame, AddsRow, SetsSpan, TakesRow, with_content, with_after};
+ghost use Rattle.row_arena.specs.Layout.{AddsCells, TakesCells, AreInPlace, IsHeld};
 
 use crate::cell::{ArenaRow, Cell};
 use crate::held::{HeldRow, MOST_COLUMNS};
@@ -162,6 +162,16 @@ impl RowArena {
         let held = &mut self.rows[row];
         held.head.span = span;
     }
+
+    /// Takes a row and its cells away.
+    pub fn take_row(&mut self, row: usize)
+        requires { HasRow self.old row }
+        ensures { TakesRow self.old self.new row }
+    {
+        let _room = self.cells.capacity();
+        let held = self.rows.remove(row);
+        take_cells(&mut self.cells, &held);
+    }
 }
 
 // Adds the cells of a row, in the spare room, and gives their numbers.
@@ -185,4 +195,17 @@ fn add_cells(cells: &mut Slab<Cell>, row: usize, values: &[Seen]) -> [usize; MOS
         });
     }
     ids
+}
+
+// Takes the cells of a row away.
+fn take_cells(cells: &mut Slab<Cell>, held: &HeldRow)
+    requires held { IsHeld held.now }
+    requires places { AreInPlace cells.old.slots held.now 0 }
+    ensures takes { TakesCells cells.old.slots cells.new.slots held.now.ids held.now.head.arity }
+    ensures len { slab_len cells.new + held.now.head.arity ≡ slab_len cells.old }
+    ensures capacity { cells.new.capacity ≡ cells.old.capacity }
+{
+    for column in 0..held.head.arity {
+        cells.remove(held.ids[column]);
+    }
 }
