@@ -1,9 +1,7 @@
 //! What a firing of a tgd adds: new pieces for its `exists` variables, and the rows of its head.
 
-ghost use Rattle.std.specs.Prelude.{◌≡◌, ◌↔◌, ℕ, ◌+◌, ◌-◌, ◌<◌, ◌≤◌, List, ◌++◌, All, Contains, IsTrue, flat_map, length, map, slice_index_or, vec_capacity, vec_len};
+ghost use Rattle.std.specs.Prelude.{◌≡◌, ℕ, ◌+◌, ◌-◌, ◌<◌, ◌≤◌, List, ◌++◌, All, flat_map, length, map, slice_index_or, vec_capacity, vec_len};
 ghost use Rattle.rule_core.specs.Firing.{frontier_of};
-ghost use Rattle.rule_core.specs.Frontier.{Occurs};
-ghost use Rattle.rule_core.specs.declared.rules.Arg.TheVariants.{Var};
 ghost use Rattle.term_core.specs.declared.term.Seen.TheVariants.{Piece};
 ghost use Rattle.rule_core.specs.Validity.{IsWithin};
 ghost use Rattle.null_store.specs.Changes.{head_cells, exists_count};
@@ -12,7 +10,7 @@ ghost use Rattle.null_store.specs.declared.piece.NamedPiece.{NamedPiece};
 
 use crate::piece::NamedPiece;
 use crate::rows::RowList;
-use rule_core::{Arg, Atom, Tgd};
+use rule_core::{Atom, Tgd, occurs};
 use term_core::{ConstId, Seen};
 use time_line::Span;
 
@@ -104,19 +102,4 @@ fn add_rows(head: &[Atom], values: &[Seen; MOST_VARIABLES], span: Span, rows: &m
     for atom in head {
         rows.push_image(atom, values, span);
     }
-}
-
-// Whether a variable is among the arguments of atoms.
-fn occurs(atoms: &[Atom], variable: u32) -> bool
-    ensures { IsTrue result ↔ Occurs atoms.now variable }
-{
-    atoms
-        .iter()
-        .any(|atom| is_argument(atom.args.as_slice(), variable))
-}
-
-fn is_argument(args: &[Arg], variable: u32) -> bool
-    ensures { IsTrue result ↔ Contains args.now (Var variable) }
-{
-    args.contains(&Arg::Var(variable))
 }

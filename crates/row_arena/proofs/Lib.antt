@@ -1,0 +1,3 @@
+pub mod LookUpLemmas
+pub mod ArenaLemmas
+pub mod SoundLemmas
