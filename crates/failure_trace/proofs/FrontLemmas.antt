@@ -1,22 +1,18 @@
 -- What stands at the front of a line of a trace is one thing.
-use Rattle.std.proofs.Common.{◌≡◌, ◌≢◌, ◌⊎◌, ℕ, ◌+◌, ◌-◌, ◌<◌, ◌≤◌, List, [], ◌∷◌, ◌++◌, length, take, drop, All, IsTrue, refl, sym, ap, ◌∙◌, subst, arith, inl, inr}
-use Rattle.std.specs.List.{AllByRecursion}
-use Rattle.std.proofs.lemmas.List.{take-append-drop, drop-drop, append_assoc}
-use Rattle.std.proofs.lemmas.List.Elements.{All-nil, All-cons, All-head, All-from_recursion, All-weaker}
+use Rattle.std.proofs.Common.{◌≡◌, ◌≢◌, ℕ, ◌+◌, List, [], ◌∷◌, ◌++◌, length, take, drop, All, IsTrue, refl, sym, ap, ◌∙◌, subst, arith}
+use Rattle.std.proofs.lemmas.List.{take-append-drop, drop-drop}
+use Rattle.std.proofs.lemmas.List.Elements.{All-nil, All-cons, All-from_recursion, All-weaker}
 use Rattle.std.proofs.Math.Seq.{take-append_seam, drop-append_seam}
-use Rattle.time_line.specs.Numeral.{IsDigit, IsPositive, IsMark, value_of}
+use Rattle.time_line.specs.Numeral.{IsDigit, IsPositive, IsMark}
 use Rattle.rule_core.specs.Names.{IsName}
 use Rattle.decl_text.specs.declared.token.Kind.{Kind}
 use Rattle.decl_text.specs.declared.token.Kind.TheVariants.{Name, Quoted}
 use Rattle.decl_text.specs.declared.token.Token.{Token}
-use Rattle.decl_text.specs.Quotes.{IsQuoted}
-use Rattle.decl_text.specs.Tokens.{is_blank, is_name_byte, IsWord, EndsWord, IsSpelled, IsGap, IsNextToken, IsTokenAt}
+use Rattle.decl_text.specs.Tokens.{is_blank, is_name_byte, EndsWord, IsSpelled, IsGap, IsNextToken, IsTokenAt}
 use Rattle.decl_text.proofs.OnceLemmas.{Leaves, run_once, spelled_once}
-use Rattle.decl_text.proofs.PassLemmas.{word_is_name}
 use Rattle.decl_text.proofs.WrittenLemmas.{word_of_name}
 use Rattle.failure_trace.specs.declared.trace.Value.{Value}
-use Rattle.failure_trace.specs.declared.trace.Bound.{Bound}
-use Rattle.failure_trace.specs.TraceText.{EndsPart, IsValue, BeginsRule, BeginsBound}
+use Rattle.failure_trace.specs.TraceText.{EndsPart, IsValue, BeginsBound}
 
 no_gap : (rest : List ℕ) → IsGap [] rest
 no_gap rest = record { blanks = []; comment = []; bytes_are = refl; all_blank = All-nil (λ b. IsTrue (is_blank b)); one_comment = tt }

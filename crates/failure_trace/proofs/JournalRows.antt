@@ -1,21 +1,19 @@
 -- Steps of journals that are worked out by hand. In the first run, P(a, ?y) and K(a, b) over [1, 6) make ?y the constant b, and only then
 -- does P(a, b) match Q(b, ?w), whose row over [4, 9) is cut at 6. In the second, P(a, ?z) and Q(?z, ?v) are a component of two rows,
 -- which are cut at 5, where K(a, b) begins.
-use Rattle.std.proofs.Common.{◌≡◌, ◌⊎◌, ℕ, zero, suc, ◌<◌, ◌==◌, cond, ℤ, pos, ◌≤ℤ◌, ◌<ℤ◌, Option, Some, None, List, [], ◌∷◌, ◌++◌, map, length}
-use Rattle.std.proofs.Common.{refl, sym, ap, ◌∙◌, subst, inl, inr, arith, codes, All, Contains, get_or}
+use Rattle.std.proofs.Common.{◌≡◌, ℕ, ℤ, pos, ◌≤ℤ◌, ◌<ℤ◌, Some, List, [], ◌∷◌, map}
+use Rattle.std.proofs.Common.{refl, inl, inr, arith, codes, All, Contains}
 use Rattle.std.proofs.lemmas.Int.{ints}
 use Rattle.std.proofs.lemmas.List.Elements.{All-nil, All-cons, All-head, All-tail}
-use Rattle.std.proofs.lemmas.List.Sorted.{IsPermutation-refl, IsPermutation-sym, IsPermutation-to_front, IsPermutation-cons}
+use Rattle.std.proofs.lemmas.List.Sorted.{IsPermutation-refl, IsPermutation-sym, IsPermutation-to_front}
 use Rattle.term_core.specs.declared.const_id.ConstId.{ConstId}
-use Rattle.time_line.specs.Span.{Ends, ends, Has, HasInstant, Meet, IsInside}
+use Rattle.time_line.specs.Span.{Ends, ends, Has, Meet}
 use Rattle.rule_core.specs.declared.rules.Arg.TheVariants.{Var}
 use Rattle.rule_core.specs.declared.rules.Atom.{Atom}
 use Rattle.rule_core.specs.declared.rules.Egd.{Egd}
-use Rattle.rule_core.specs.Terms.{Unknown, named, TermOf, constant, unknown, FactOf}
+use Rattle.rule_core.specs.Terms.{Unknown, named, TermOf, constant, unknown}
 use Rattle.rule_core.proofs.ListLemmas.{Contains-nil, Contains-head, Contains-cons, Contains-cons_cases, Contains-from_map}
-use Rattle.failure_trace.specs.declared.journal.CutNote.{CutNote}
-use Rattle.failure_trace.specs.Equating.{replacement_of}
-use Rattle.failure_trace.specs.JournalRun.{Reaches, here, further, RowOf, Holds, Share, HoldsTerm, MatchesOver, IsComponent, Cuts, StandsOver, Equates}
+use Rattle.failure_trace.specs.JournalRun.{Reaches, here, further, RowOf, Share, HoldsTerm, MatchesOver, Cuts, Equates}
 use Rattle.failure_trace.specs.TraceRun.{text_cmp}
 
 abbrev Row : Type 0

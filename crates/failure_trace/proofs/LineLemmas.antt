@@ -13,7 +13,7 @@ use Rattle.failure_trace.specs.declared.fault.TraceCode.{TraceCode}
 use Rattle.failure_trace.specs.declared.fault.TraceCode.TheVariants.{L1, L2, L3, L4, L5, L6}
 use Rattle.failure_trace.specs.declared.fault.TraceError.{TraceError}
 use Rattle.failure_trace.specs.declared.fault.TraceError.TheVariants.{Fault, Memory}
-use Rattle.failure_trace.specs.TraceText.{EndsPart, BeginsBound, Bind, BeginsLine, BeginsTrace, BeginsInstant, IsStepLine, Steps, FailsStep, FailsSteps, FailsAtLine, Fails, IfFault}
+use Rattle.failure_trace.specs.TraceText.{EndsPart, Bind, BeginsLine, BeginsTrace, BeginsInstant, Steps, FailsStep, FailsSteps, FailsAtLine, Fails, IfFault}
 use Rattle.failure_trace.proofs.FrontLemmas.{same_after}
 
 -- a line of the bytes, from where its line feed stands

@@ -1,16 +1,16 @@
 -- What is printed of a writable trace is this trace.
-use Rattle.std.proofs.Common.{◌≡◌, ◌≢◌, ◌==◌, ◌+◌, ◌-◌, ◌*◌, ◌<◌, ◌≤◌, ◌^◌, ℕ, ℤ, Bool, true, false, cond, Some, List, [], ◌∷◌, ◌++◌, length, get_or, decimal, codes, fold, All, IsUtf8, refl, sym, ap, ◌∙◌, subst, inl, inr, rules, arith, append-nil, append_assoc}
-use Rattle.std.specs.List.{AllByRecursion, concat, flat_map}
+use Rattle.std.proofs.Common.{◌≡◌, ◌≢◌, ◌==◌, ◌+◌, ◌-◌, ◌*◌, ◌<◌, ◌≤◌, ◌^◌, ℕ, ℤ, Bool, true, false, cond, Some, List, [], ◌∷◌, ◌++◌, get_or, decimal, codes, fold, All, refl, sym, ap, ◌∙◌, subst, inl, inr, rules, arith, append-nil, append_assoc}
+use Rattle.std.specs.List.{AllByRecursion, flat_map}
 use Rattle.std.specs.Char.{encode_utf8}
 use Rattle.std.specs.Str.{chars}
 use Rattle.std.specs.Fmt.{signed_decimal}
-use Rattle.std.proofs.lemmas.Bool.Decides.{nat_tests, Decides-eqb}
+use Rattle.std.proofs.lemmas.Bool.Decides.{Decides-eqb}
 use Rattle.std.proofs.lemmas.List.{get_or_default}
 use Rattle.std.proofs.lemmas.List.Elements.{All-nil, All-cons, All-head, All-tail, All-append, All-weaker, All-from_recursion}
 use Rattle.std.proofs.lemmas.Str.{inside_one}
 use Rattle.std.proofs.lemmas.Str.Parse.{IsNumeralModel, numerals_by_fold}
 use Rattle.std.proofs.lemmas.Fmt.{digits_decimal, digits_value-decimal, first_decimal}
-use Rattle.time_line.specs.Numeral.{IsDigit, IsPositive, IsNumber, IsMark, value_of, number_of}
+use Rattle.time_line.specs.Numeral.{IsDigit, IsPositive, IsNumber, IsMark, value_of}
 use Rattle.time_line.specs.Span.{IsWithinInstants}
 use Rattle.time_line.proofs.NumeralLemmas.{signed_decimal-reads}
 use Rattle.rule_core.specs.Names.{IsNameByte, IsName}
@@ -24,7 +24,7 @@ use Rattle.failure_trace.specs.declared.trace.StepKind.{StepKind}
 use Rattle.failure_trace.specs.declared.trace.StepKind.TheVariants.{Tgd, Egd, Clash}
 use Rattle.failure_trace.specs.declared.trace.TraceStep.{TraceStep}
 use Rattle.failure_trace.specs.declared.trace.Trace.{Trace}
-use Rattle.failure_trace.specs.TraceText.{EndsPart, IsValue, Bind, BeginsBound, BeginsLine, IsStepLine, Steps, kind_word, IsTrace}
+use Rattle.failure_trace.specs.TraceText.{EndsPart, IsValue, Bind, BeginsLine, IsStepLine, Steps, kind_word, IsTrace}
 use Rattle.failure_trace.specs.Printed.{value_text, bound_text, step_text, trace_text, IsWritableValue, IsWritableBound, IsWritableStep, IsWritable}
 
 abbrev NoFeed : List ℕ → Type 0

@@ -1,5 +1,5 @@
 -- A text is a trace, or it has a first fault, and not both; and it has one first fault.
-use Rattle.std.proofs.Common.{◌≡◌, ◌≢◌, ◌⊎◌, ◌+◌, ◌<◌, ◌≤◌, ℕ, ℤ, List, [], ◌∷◌, ◌++◌, length, codes, refl, sym, ap, ◌∙◌, subst, inl, inr, arith}
+use Rattle.std.proofs.Common.{◌≡◌, ◌⊎◌, ◌+◌, ◌<◌, ◌≤◌, ℕ, ℤ, List, [], ◌∷◌, ◌++◌, length, codes, refl, sym, ◌∙◌, subst, inl, inr, arith}
 use Rattle.failure_trace.specs.declared.fault.TraceCode.{TraceCode}
 use Rattle.failure_trace.specs.declared.fault.TraceFault.{TraceFault}
 use Rattle.failure_trace.specs.declared.fault.TraceCode.TheVariants.{L1, L2, L3, L4, L5, L6}
@@ -7,10 +7,10 @@ use Rattle.failure_trace.specs.declared.trace.Bound.{Bound}
 use Rattle.failure_trace.specs.declared.trace.StepKind.{StepKind}
 use Rattle.failure_trace.specs.declared.trace.TraceStep.{TraceStep}
 use Rattle.failure_trace.specs.declared.trace.Trace.{Trace}
-use Rattle.failure_trace.specs.TraceText.{EndsPart, BeginsRule, BeginsBound, Bind, kind_word, BeginsStep, IsStepLine, FailsBinding, FailsStep, BeginsLine, BeginsTrace, BeginsInstant, Steps, IsTrace, FailsSteps, FailsAtLine, Fails}
-use Rattle.failure_trace.proofs.FrontLemmas.{same_after, name_once, ends_word}
+use Rattle.failure_trace.specs.TraceText.{BeginsRule, BeginsBound, Bind, kind_word, BeginsStep, IsStepLine, FailsBinding, FailsStep, BeginsLine, BeginsTrace, BeginsInstant, Steps, IsTrace, FailsSteps, FailsAtLine, Fails}
+use Rattle.failure_trace.proofs.FrontLemmas.{name_once, ends_word}
 use Rattle.failure_trace.proofs.LineLemmas.{line_once, no_line}
-use Rattle.failure_trace.proofs.TextOnce.{bound_once, kind_once, step_line_once}
+use Rattle.failure_trace.proofs.TextOnce.{bound_once, kind_once}
 
 -- a binding begins behind a space, where the rest is
 abbrev GoesOn : List ℕ → Type 0

@@ -1,7 +1,6 @@
 -- A text is one trace.
-use Rattle.std.proofs.Common.{◌≡◌, ◌≢◌, ◌⊎◌, ℕ, List, [], ◌∷◌, ◌++◌, length, get_or, codes, refl, sym, ap, ◌∙◌, subst, arith}
+use Rattle.std.proofs.Common.{◌≡◌, ◌≢◌, ℕ, List, [], ◌∷◌, ◌++◌, get_or, codes, refl, sym, ap, ◌∙◌, subst, arith}
 use Rattle.time_line.specs.Numeral.{IsMark, number_of, value_of}
-use Rattle.decl_text.specs.Tokens.{IsSpelled}
 use Rattle.decl_text.specs.declared.token.Kind.TheVariants.{Quoted}
 use Rattle.decl_text.proofs.OnceLemmas.{spelled_once}
 use Rattle.decl_text.proofs.NextLemmas.{quoted_read}
@@ -13,7 +12,7 @@ use Rattle.failure_trace.specs.declared.trace.StepKind.{StepKind}
 use Rattle.failure_trace.specs.declared.trace.StepKind.TheVariants.{Tgd, Egd, Clash}
 use Rattle.failure_trace.specs.declared.trace.TraceStep.{TraceStep}
 use Rattle.failure_trace.specs.declared.trace.Trace.{Trace}
-use Rattle.failure_trace.specs.TraceText.{EndsPart, IsValue, BeginsRule, BeginsBound, Bind, kind_word, IsStepLine, BeginsLine, Steps, IsTrace}
+use Rattle.failure_trace.specs.TraceText.{EndsPart, IsValue, BeginsBound, Bind, kind_word, IsStepLine, BeginsLine, Steps, IsTrace}
 use Rattle.failure_trace.proofs.FrontLemmas.{same_after, mark_whole, part_once, name_once, ends_word, equals_ends_word}
 use Rattle.failure_trace.proofs.LineLemmas.{line_once, no_line, number_after}
 

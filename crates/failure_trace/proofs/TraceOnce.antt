@@ -1,10 +1,10 @@
 -- The tests of a step come to one outcome, where no two rules of a kind have one name.
-use Rattle.std.proofs.Common.{◌≡◌, ◌≢◌, ◌⊎◌, ℕ, ◌+◌, Option, Some, None, List, [], ◌∷◌, ◌++◌, map, refl, sym, ap, ◌∙◌, subst, inl, inr, All, AllPairs, Contains, MatchOption}
+use Rattle.std.proofs.Common.{◌≡◌, ◌≢◌, ◌⊎◌, ℕ, ◌+◌, Option, Some, None, List, [], ◌∷◌, ◌++◌, map, sym, ◌∙◌, subst, inl, inr, AllPairs, MatchOption}
 use Rattle.std.proofs.lemmas.List.Elements.{All-contains, Contains-append_left}
 use Rattle.term_core.specs.declared.const_id.ConstId.{ConstId}
 use Rattle.rule_core.specs.declared.rules.Tgd.{Tgd}
 use Rattle.rule_core.specs.declared.rules.Egd.{Egd}
-use Rattle.rule_core.specs.Terms.{TermOf, FactOf}
+use Rattle.rule_core.specs.Terms.{FactOf}
 use Rattle.rule_core.specs.Mapping.{RuleSet}
 use Rattle.rule_core.specs.Match.{Matches}
 use Rattle.rule_core.specs.Validity.{AreRules}
@@ -13,10 +13,10 @@ use Rattle.failure_trace.specs.declared.trace.StepKind.{StepKind}
 use Rattle.failure_trace.specs.declared.trace.StepKind.TheVariants.{Tgd as TgdStep, Egd as EgdStep, Clash as ClashStep}
 use Rattle.failure_trace.specs.declared.trace.TraceStep.{TraceStep}
 use Rattle.failure_trace.specs.declared.why.Why.{Why}
-use Rattle.failure_trace.specs.declared.why.Why.TheVariants.{K1, K2, K3, K4, K5, K6}
+use Rattle.failure_trace.specs.declared.why.Why.TheVariants.{K2, K3, K4, K6}
 use Rattle.failure_trace.specs.Equating.{Replacement, bound_to, AreClashing, replacement_of}
 use Rattle.failure_trace.specs.Trace.{terms_in}
-use Rattle.failure_trace.specs.TraceRun.{Instance, Stage, going, clashed, Outcome, goes, stops, Test, Named, FitsTgd, FitsEgd, given_numbers, AreNew, left_side, right_side, text_cmp, EquatesSides, step_tests, kind_tests, Pass, FailsFrom}
+use Rattle.failure_trace.specs.TraceRun.{Instance, Stage, going, clashed, Outcome, goes, stops, Test, Named, FitsTgd, FitsEgd, given_numbers, AreNew, left_side, right_side, text_cmp, step_tests, kind_tests, Pass, FailsFrom}
 
 -- what elements of a list are to each other, those of its first part are, and those of its second
 AllPairs-first : {X : Type 0} (R : X → X → Type 0) (xs ys : List X) → AllPairs R (xs ++ ys) → AllPairs R xs

@@ -1,5 +1,5 @@
 -- Traces that are checked by hand: salaries of persons at companies, where Ada has two salaries from 2016 on and before 2017.
-use Rattle.std.proofs.Common.{◌≡◌, ℕ, ◌==◌, cond, ℤ, pos, Option, Some, None, List, [], ◌∷◌, ◌++◌, map, refl, codes}
+use Rattle.std.proofs.Common.{◌≡◌, ℕ, ℤ, pos, Option, Some, None, List, [], ◌∷◌, ◌++◌, map, refl, codes}
 use Rattle.term_core.specs.declared.const_id.ConstId.{ConstId}
 use Rattle.rule_core.specs.declared.rules.Relation.{Relation}
 use Rattle.rule_core.specs.declared.rules.Arg.TheVariants.{Var}
@@ -7,7 +7,6 @@ use Rattle.rule_core.specs.declared.rules.Atom.{Atom}
 use Rattle.rule_core.specs.Terms.{constant, FactOf, StampedOf}
 use Rattle.rule_core.specs.Mapping.{RuleSet}
 use Rattle.rule_core.specs.Snapshot.{snapshot_at}
-use Rattle.failure_trace.specs.declared.trace.Value.{Value}
 use Rattle.failure_trace.specs.declared.trace.Value.TheVariants.{Const, Null}
 use Rattle.failure_trace.specs.declared.trace.Bound.{Bound}
 use Rattle.failure_trace.specs.declared.trace.StepKind.{StepKind}

@@ -1,6 +1,6 @@
 -- The tests of a trace's steps as a computation: what a step comes to, and where a trace ends.
-use Rattle.std.proofs.Common.{◌≡◌, ◌≢◌, ◌⊎◌, ℕ, ◌+◌, ◌==◌, Bool, true, false, cond, not, ◌&&◌, ◌||◌, Option, Some, None, List, [], ◌∷◌, ◌++◌, drop, map, filter}
-use Rattle.std.proofs.Common.{refl, sym, ap, ◌∙◌, subst, inl, inr, arith, All, AllPairs, Any, Contains, get_or, MatchOption, unwrap_or}
+use Rattle.std.proofs.Common.{◌≡◌, ◌≢◌, ℕ, ◌+◌, ◌==◌, Bool, true, false, cond, not, ◌&&◌, ◌||◌, Option, Some, None, List, [], ◌∷◌, drop, map}
+use Rattle.std.proofs.Common.{refl, sym, ap, subst, inl, inr, All, AllPairs, Contains, get_or, MatchOption, unwrap_or}
 use Rattle.std.specs.List.{list_any, list_all, find}
 use Rattle.std.specs.Bool.{Decides}
 use Rattle.std.specs.declared.cmp.Ordering.{Ordering}
@@ -10,7 +10,7 @@ use Rattle.std.specs.Cmp.{IsTotalOrder}
 use Rattle.std.specs.Cmp.Lexicographic.{slice_cmp}
 use Rattle.std.specs.FinMap.{IsAntisymmetric, nat_cmp-IsAntisymmetric, slice_cmp-IsAntisymmetric}
 use Rattle.std.proofs.lemmas.Cmp.{tied_itself, then_total, on_total, lists_total, nat_cmp_total}
-use Rattle.std.proofs.lemmas.Bool.Decides.{Decides-eqb, Decides-and, Decides-not, Decides-by_and, Decides-by_or, not_from_Decides}
+use Rattle.std.proofs.lemmas.Bool.Decides.{Decides-eqb, Decides-and, Decides-not, Decides-by_and}
 use Rattle.std.proofs.lemmas.List.Elements.{All-nil, All-cons, Contains-get_or}
 use Rattle.term_core.specs.declared.const_id.ConstId.{ConstId}
 use Rattle.rule_core.specs.declared.rules.Atom.{Atom}
@@ -31,8 +31,8 @@ use Rattle.failure_trace.specs.declared.trace.TraceStep.{TraceStep}
 use Rattle.failure_trace.specs.declared.why.Why.{Why}
 use Rattle.failure_trace.specs.declared.why.Why.TheVariants.{K1, K2, K3, K4, K5, K6, K7, K8}
 use Rattle.failure_trace.specs.Equating.{Replacement, bound_to, AreClashing, replacement_of, replaced_fact}
-use Rattle.failure_trace.specs.Trace.{IsUnknown, names_in, terms_in, numbers_in}
-use Rattle.failure_trace.specs.TraceRun.{Instance, Stage, going, clashed, start, Outcome, goes, stops, Test, Named, FitsTgd, FitsEgd, given_numbers, AreNew, left_side, right_side, text_cmp, with_head, EquatesSides, step_tests, kind_tests, Pass, FailsFrom}
+use Rattle.failure_trace.specs.Trace.{IsUnknown, names_in, terms_in}
+use Rattle.failure_trace.specs.TraceRun.{Instance, Stage, going, clashed, Outcome, goes, stops, Test, Named, FitsTgd, FitsEgd, given_numbers, AreNew, left_side, right_side, text_cmp, with_head, EquatesSides, step_tests, kind_tests, Pass, FailsFrom}
 
 -- equal where an order finds no difference
 Decides-tied : {X : Type 0} (cmp : X → X → Ordering) → IsTotalOrder cmp → IsAntisymmetric cmp → (a b : X) → Decides (is_eq (cmp a b)) (a ≡ b)

@@ -1,5 +1,5 @@
 -- What becomes of facts where two terms are made equal.
-use Rattle.std.specs.Prelude.{◌≢◌, ℕ, Option, Some, None, List, map, slice_index_or}
+use Rattle.std.specs.Prelude.{◌≢◌, ℕ, Option, Some, None, List, slice_index_or}
 use Rattle.std.specs.declared.cmp.Ordering.{Ordering}
 use Rattle.std.specs.declared.cmp.Ordering.TheVariants.{Less, Equal, Greater}
 use Rattle.rule_core.specs.Terms.{Unknown, numbered, TermOf, constant, unknown, FactOf}

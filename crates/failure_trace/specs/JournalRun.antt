@@ -1,7 +1,7 @@
 -- The settling of a list of rows, step by step. A step makes the two sides of an egd equal over the common time of a match; before it,
 -- rows are cut where it needs that, each with all rows that share an unknown with it. States are compared as lists up to order, each
 -- row as often. Rows that are equal and hold an unknown share it, so a component has all of them or none.
-use Rattle.std.specs.Prelude.{◌≡◌, ◌⊎◌, ◌↔◌, ℕ, ℤ, Some, List, [], ◌∷◌, ◌++◌, map, length, All, Contains, IsPermutation, IsSomeAnd, slice_get}
+use Rattle.std.specs.Prelude.{◌≡◌, ◌⊎◌, ◌↔◌, ℤ, Some, List, [], ◌∷◌, ◌++◌, map, length, All, Contains, IsPermutation, IsSomeAnd, slice_get}
 use Rattle.std.specs.declared.cmp.Ordering.{Ordering}
 use Rattle.time_line.specs.Span.{Ends, ends, Has, HasInstant, Meet, IsInside, span_cmp}
 use Rattle.term_core.specs.declared.const_id.ConstId.{ConstId}

@@ -1,4 +1,4 @@
-use Rattle.std.proofs.Common.{◌≡◌, ◌≢◌, ℕ, ◌+◌, List, [], ◌∷◌, ◌++◌, take, drop, sym, ap, ◌∙◌, subst}
+use Rattle.std.proofs.Common.{◌≡◌, ◌+◌, ◌∷◌, ◌++◌, take, drop, sym, ◌∙◌, subst}
 use Rattle.std.proofs.lemmas.List.{take-append-drop, take_rest}
 use Rattle.failure_trace.specs.TraceText.{BeginsBound}
 use Rattle.failure_trace.proofs.FrontLemmas.{name_once, equals_ends_word, bound_front}

@@ -1,4 +1,4 @@
-use Rattle.std.proofs.Common.{◌≡◌, ◌≢◌, length, take, drop, rules, arith, subst}
+use Rattle.std.proofs.Common.{◌≡◌, ◌≢◌, take, drop, rules, arith, subst}
 use Rattle.decl_text.specs.declared.token.Kind.{Kind}
 use Rattle.decl_text.specs.Tokens.{IsSpelled}
 use Rattle.failure_trace.proofs.FrontLemmas.{front_token, front_parts, front_once}

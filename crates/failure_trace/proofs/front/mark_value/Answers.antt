@@ -1,4 +1,4 @@
-use Rattle.std.proofs.Common.{◌≡◌, ◌≢◌, length, take, drop, rules, sym, subst, ◌∙◌}
+use Rattle.std.proofs.Common.{take, drop, sym, subst, ◌∙◌}
 use Rattle.std.proofs.lemmas.List.{take-append-drop}
 use Rattle.time_line.specs.Numeral.{IsMark}
 use Rattle.failure_trace.proofs.FrontLemmas.{mark_whole, part_once}

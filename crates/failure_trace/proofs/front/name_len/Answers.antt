@@ -1,4 +1,4 @@
-use Rattle.std.proofs.Common.{◌≡◌, ◌≢◌, ◌≤◌, length, take, drop, rules, sym, subst, ◌∙◌, codes, true, false}
+use Rattle.std.proofs.Common.{◌≡◌, ◌≢◌, ◌≤◌, length, take, drop, rules, sym, subst, ◌∙◌, codes, true}
 use Rattle.std.proofs.lemmas.List.{take-append-drop}
 use Rattle.decl_text.proofs.PassLemmas.{word_is_name}
 use Rattle.failure_trace.proofs.FrontLemmas.{name_spelled, word_once}

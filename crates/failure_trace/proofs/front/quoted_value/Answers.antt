@@ -1,7 +1,6 @@
-use Rattle.std.proofs.Common.{◌≡◌, ◌≢◌, ℕ, List, length, take, drop, rules, sym, ap, subst, ◌∙◌, true, false, arith}
+use Rattle.std.proofs.Common.{◌≡◌, ℕ, List, take, drop, rules, sym, subst, ◌∙◌, false}
 use Rattle.std.proofs.lemmas.List.{take-append-drop, take_rest, length-take-le}
 use Rattle.decl_text.specs.declared.token.Kind.TheVariants.{Quoted}
-use Rattle.decl_text.specs.declared.token.Token.{Token}
 use Rattle.decl_text.specs.Tokens.{IsNextToken}
 use Rattle.failure_trace.specs.TraceText.{EndsPart}
 use Rattle.failure_trace.proofs.FrontLemmas.{front_token, quoted_once, same_rest}

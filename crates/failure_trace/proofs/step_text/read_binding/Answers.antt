@@ -1,4 +1,4 @@
-use Rattle.std.proofs.Common.{◌≡◌, ◌<◌, ◌≤◌, ℕ, List, [], ◌∷◌, ◌++◌, length, drop, sym, arith}
+use Rattle.std.proofs.Common.{ℕ, List, [], ◌∷◌, drop, sym, arith}
 use Rattle.std.proofs.lemmas.List.{take_rest}
 use Rattle.failure_trace.proofs.LineLemmas.{space_first, none_left, bound_so_far}
 use Rattle.failure_trace.proofs.step_text.read_binding.Goals as goal

@@ -1,4 +1,4 @@
-use Rattle.std.proofs.Common.{◌≡◌, take, drop, codes, true, false, rules}
+use Rattle.std.proofs.Common.{◌≡◌, take, drop, codes, false, rules}
 use Rattle.failure_trace.proofs.LineLemmas.{line_once, no_both}
 use Rattle.failure_trace.proofs.trace_text.first_end.Goals as goal
 

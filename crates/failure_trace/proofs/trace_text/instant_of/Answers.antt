@@ -1,4 +1,4 @@
-use Rattle.std.proofs.Common.{◌≡◌, ℕ, ℤ, List, ◌++◌, take, drop, codes, sym, ◌∙◌, subst, rules, SFits, w64}
+use Rattle.std.proofs.Common.{◌≡◌, ℤ, ◌++◌, take, drop, codes, sym, ◌∙◌, subst, rules, SFits, w64}
 use Rattle.std.proofs.lemmas.Int.{to_z-of_z}
 use Rattle.time_line.specs.Numeral.{IsNumber, number_of}
 use Rattle.failure_trace.specs.TraceText.{BeginsInstant}

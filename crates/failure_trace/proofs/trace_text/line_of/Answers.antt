@@ -1,4 +1,4 @@
-use Rattle.std.proofs.Common.{◌≡◌, ◌≤◌, length, drop}
+use Rattle.std.proofs.Common.{◌≤◌, length, drop}
 use Rattle.std.proofs.lemmas.List.{take_rest}
 use Rattle.failure_trace.proofs.LineLemmas.{line_front}
 use Rattle.failure_trace.proofs.trace_text.line_of.Goals as goal

@@ -1,7 +1,7 @@
-use Rattle.std.proofs.Common.{◌≡◌, ◌+◌, ℕ, ℤ, List, [], take, drop, length, refl, sym, Err, rules, arith, subst, SFits, w64}
+use Rattle.std.proofs.Common.{◌≡◌, ◌+◌, ℕ, ℤ, List, drop, refl, sym, Err, rules, subst, SFits, w64}
 use Rattle.std.proofs.lemmas.Int.{to_z-of_z}
 use Rattle.std.proofs.lemmas.List.{take_rest, drop-drop}
-use Rattle.failure_trace.specs.TraceText.{BeginsInstant, Steps}
+use Rattle.failure_trace.specs.TraceText.{BeginsInstant}
 use Rattle.failure_trace.proofs.LineLemmas.{text_fails}
 use Rattle.failure_trace.proofs.trace_text.read_trace.Goals as goal
 
