@@ -309,8 +309,10 @@ module _ (facts : List Fact) (places : List ℕ) (index : ℕ) where
       (λ (before : h.1.0 < index). inl (h.0, (h.1.0, before, h.1.2, h.1.3)))
       (λ (after : index ≤ h.1.0).
       let same : h.1.0 ≡ index = omega (arith, after, h.1.1) in
-      inr (subst (λ n. get_or places n 0 ≡ c.group) same h.1.2,
-      subst (λ n. IsSomeAnd (slice_get facts n) (λ fact. IsEndOf fact.span c.at)) same h.1.3))
+      inr (
+        subst (λ n. get_or places n 0 ≡ c.group) same h.1.2,
+        subst (λ n. IsSomeAnd (slice_get facts n) (λ fact. IsEndOf fact.span c.at)) same h.1.3,
+      ))
       (cases_lt h.1.0 index)
 
   pub cuts_same : ¬ (IsShared places (get_or places index 0)) → (old : List Cut) → ((c : Cut) → Contains old c ↔ IsCutBelow facts places index c)

@@ -350,7 +350,7 @@ unites_alone tgd table labels few = record {
     λ edge. (
       λ c. absurd (Contains-nil edge c),
       λ h. absurd (alone h.0.rows edge
-      (let size = zip_length (IsImageAt (rows_of table) (seen_value h.0.binding)) tgd.body h.0.rows h.1.images in omega (arith, size, few)) h.2),
+          (let size = zip_length (IsImageAt (rows_of table) (seen_value h.0.binding)) tgd.body h.0.rows h.1.images in omega (arith, size, few)) h.2),
     ),
   );
 }

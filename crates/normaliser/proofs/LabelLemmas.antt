@@ -190,9 +190,9 @@ module _ (parents : List ℕ) (fit : AreParents parents) (k p : ℕ) (within : k
       root : (j : ℕ) → j < length (set parents k p) → j ≤ get_or (set parents k p) j 0 → get_or (labels_of parents) j 0 ≡ j
       root j l h = elim (same_or_not j k) [
         | inl e ↦
-          let first : k ≤ get_or (set parents k p) k 0 = subst (λ i. i ≤ get_or (set parents k p) i 0) e h in
-          let again : k ≤ p = rw (get_or-set_same parents k p 0 within) at first in
-          subst (λ i. get_or (labels_of parents) i 0 ≡ i) (sym e) (own (omega (arith, up, again)))
+            let first : k ≤ get_or (set parents k p) k 0 = subst (λ i. i ≤ get_or (set parents k p) i 0) e h in
+            let again : k ≤ p = rw (get_or-set_same parents k p 0 within) at first in
+            subst (λ i. get_or (labels_of parents) i 0 ≡ i) (sym e) (own (omega (arith, up, again)))
         | inr differs ↦ label_of_its_own parents fit j (inside j l) (rw (other j differs) at h)
       ]
 
@@ -225,15 +225,15 @@ module _ (parents : List ℕ) (fit : AreParents parents) (k p : ℕ) (within : k
           → get_or (map (merged k p) (labels_of parents)) j 0 ≡ j
       root j l h = elim (same_or_not j k) [
         | inl e ↦
-          let first : k ≤ get_or (set parents k p) k 0 = subst (λ i. i ≤ get_or (set parents k p) i 0) e h in
-          let again : k ≤ p = rw (get_or-set_same parents k p 0 within) at first in
-          let same : min k p ≡ k = omega (arith, again, up) in
-          subst (λ i. get_or (map (merged k p) (labels_of parents)) i 0 ≡ i) (sym e)
-          (at_merged k p (labels_of parents) k ∙ ap (merged k p) top ∙ merged_first k p ∙ same)
+            let first : k ≤ get_or (set parents k p) k 0 = subst (λ i. i ≤ get_or (set parents k p) i 0) e h in
+            let again : k ≤ p = rw (get_or-set_same parents k p 0 within) at first in
+            let same : min k p ≡ k = omega (arith, again, up) in
+            subst (λ i. get_or (map (merged k p) (labels_of parents)) i 0 ≡ i) (sym e)
+            (at_merged k p (labels_of parents) k ∙ ap (merged k p) top ∙ merged_first k p ∙ same)
         | inr differs ↦
-          let own = label_of_its_own parents fit j (inside j l) (rw (other j differs) at h) in
-          let greatest : max k p ≡ k = omega (arith, up) in
-          at_merged k p (labels_of parents) j ∙ ap (merged k p) own ∙ merged_other k p j (λ e. differs (e ∙ greatest))
+            let own = label_of_its_own parents fit j (inside j l) (rw (other j differs) at h) in
+            let greatest : max k p ≡ k = omega (arith, up) in
+            at_merged k p (labels_of parents) j ∙ ap (merged k p) own ∙ merged_other k p j (λ e. differs (e ∙ greatest))
       ]
 
 -- each place alone

@@ -75,24 +75,30 @@ module _ (cuts : ℤ → Type 0) (span : Ends) (t : ℤ) where
   -- the side of an end on which the instant is
   cut_at : (ends : List ℤ) (part : Ends) (m : ℤ) → IsCutBy ends part → cuts m → IsInside part m → (side : Ends) × IsCutBy (m ∷ ends) side
   cut_at ends part m h c i = by_lt_z t m
-      (λ (l : t <ℤ m). (record { lo = part.lo; hi = Some m }, record {
-        at = (h.at.0, l);
-        within = λ u k. h.within u (k.0, before_stop u k.1);
-        bounds = λ n e. ⊎_elim (λ x. h.bounds n (inl x)) (λ (x : Some m ≡ Some n). let same : m ≡ n = cc in inr (subst cuts same c)) e;
-        uncut = λ k d f j. ⊎_elim
-            (λ (e : m ≡ k). let late : k <ℤ m = j.0.1 in omega (arith, ints, late, e))
-            (λ (d' : Contains ends k). h.uncut k d' f (inside_whole (record { lo = part.lo; hi = Some m }) part (λ u x. (x.0, before_stop u x.1)) k j))
-            (Contains-cons_cases m k ends d);
-      }))
-      (λ (g : m ≤ℤ t). (record { lo = Some m; hi = part.hi }, record {
-        at = (g, h.at.1);
-        within = λ u k. h.within u (from_start u k.0, k.1);
-        bounds = λ n e. ⊎_elim (λ (x : Some m ≡ Some n). let same : m ≡ n = cc in inr (subst cuts same c)) (λ x. h.bounds n (inr x)) e;
-        uncut = λ k d f j. ⊎_elim
-            (λ (e : m ≡ k). let early : m ≤ℤ (k -ℤ pos 1) = j.1.0 in omega (arith, ints, early, e))
-            (λ (d' : Contains ends k). h.uncut k d' f (inside_whole (record { lo = Some m; hi = part.hi }) part (λ u x. (from_start u x.0, x.1)) k j))
-            (Contains-cons_cases m k ends d);
-      }))
+      (λ (l : t <ℤ m). (
+        record { lo = part.lo; hi = Some m },
+        record {
+          at = (h.at.0, l);
+          within = λ u k. h.within u (k.0, before_stop u k.1);
+          bounds = λ n e. ⊎_elim (λ x. h.bounds n (inl x)) (λ (x : Some m ≡ Some n). let same : m ≡ n = cc in inr (subst cuts same c)) e;
+          uncut = λ k d f j. ⊎_elim
+              (λ (e : m ≡ k). let late : k <ℤ m = j.0.1 in omega (arith, ints, late, e))
+              (λ (d' : Contains ends k). h.uncut k d' f (inside_whole (record { lo = part.lo; hi = Some m }) part (λ u x. (x.0, before_stop u x.1)) k j))
+              (Contains-cons_cases m k ends d);
+        },
+      ))
+      (λ (g : m ≤ℤ t). (
+        record { lo = Some m; hi = part.hi },
+        record {
+          at = (g, h.at.1);
+          within = λ u k. h.within u (from_start u k.0, k.1);
+          bounds = λ n e. ⊎_elim (λ (x : Some m ≡ Some n). let same : m ≡ n = cc in inr (subst cuts same c)) (λ x. h.bounds n (inr x)) e;
+          uncut = λ k d f j. ⊎_elim
+              (λ (e : m ≡ k). let early : m ≤ℤ (k -ℤ pos 1) = j.1.0 in omega (arith, ints, early, e))
+              (λ (d' : Contains ends k). h.uncut k d' f (inside_whole (record { lo = Some m; hi = part.hi }) part (λ u x. (from_start u x.0, x.1)) k j))
+              (Contains-cons_cases m k ends d);
+        },
+      ))
     where
       before_stop : (u : ℤ) → u <ℤ m → IsBefore part.hi u
       before_stop u l = IsBefore-earlier part.hi u m (omega (arith, ints, l)) i.0.1
@@ -101,12 +107,15 @@ module _ (cuts : ℤ → Type 0) (span : Ends) (t : ℤ) where
       from_start u l = IsFrom-later part.lo m u l i.0.0
 
   cut_by_all : (ends : List ℤ) → Has span t → Unrefuted ((part : Ends) × IsCutBy ends part)
-  cut_by_all [] at = known (span, record {
-    at = at;
-    within = λ u h. h;
-    bounds = λ m e. inl e;
-    uncut = λ m c. absurd (Contains-nil m c);
-  })
+  cut_by_all [] at = known (
+    span,
+    record {
+      at = at;
+      within = λ u h. h;
+      bounds = λ m e. inl e;
+      uncut = λ m c. absurd (Contains-nil m c);
+    },
+  )
   cut_by_all (m ∷ ends) at = next (cut_by_all ends at) (λ h. next (either (cuts m)) (λ d. known (by d h.0 h.1)))
     where
       either : (A : Type 0) → Unrefuted (A ⊎ ¬ A)
@@ -120,12 +129,16 @@ module _ (cuts : ℤ → Type 0) (span : Ends) (t : ℤ) where
       by (inr o) part h = (part, not_inside ends part m h (λ c. absurd (o c)))
 
   pub part_at : (ends : List ℤ) → ((m : ℤ) → cuts m → Contains ends m) → Has span t → Unrefuted ((part : Ends) × IsPartOf cuts span part × Has part t)
-  part_at ends listed at = next (cut_by_all ends at) (λ h. known (h.0, record {
-    instant = (t, h.1.at);
-    within = h.1.within;
-    bounds = h.1.bounds;
-    uncut = λ m c. h.1.uncut m (listed m c) c;
-  }, h.1.at))
+  part_at ends listed at = next (cut_by_all ends at) (λ h. known (
+    h.0,
+    record {
+      instant = (t, h.1.at);
+      within = h.1.within;
+      bounds = h.1.bounds;
+      uncut = λ m c. h.1.uncut m (listed m c) c;
+    },
+    h.1.at,
+  ))
 
 -- whether two spans are the same is a test
 same_span_or_not : (a b : Ends) → (a ≡ b) ⊎ (a ≡ b → ⊥)
@@ -232,8 +245,11 @@ module _ (mapping : RuleSet) (table pieces : List Fact) (norm : IsNormalised map
           next (part_at (cuts_at at.0) fact.span t (ends_of table) (listed at.0) h) (λ p.
           known (
             over_span fact p.0,
-            (norm.exact (over_span fact p.0)).1 (at.0, and_some (λ (f : Fact). IsPieceOf (cuts_at at.0) f (over_span fact p.0)) (slice_get table at.0) fact at.1
-            (record { relation = refl; row = refl; part = p.1 })),
+            (norm.exact (over_span fact p.0)).1 (
+              at.0,
+              and_some (λ (f : Fact). IsPieceOf (cuts_at at.0) f (over_span fact p.0)) (slice_get table at.0) fact at.1
+                  (record { relation = refl; row = refl; part = p.1 }),
+            ),
             refl,
             refl,
             p.2,
@@ -242,12 +258,12 @@ module _ (mapping : RuleSet) (table pieces : List Fact) (norm : IsNormalised map
   pub same_snapshots : HaveSameSnapshots table pieces
   same_snapshots t fact = (
     snapshot_moves table pieces t (λ relation row h.
-    let p = held h.1 t (h.0, h.2, h.3) h.4.2 in
-    (p.1.0, p.0, p.1.1, p.1.2, (p.2 ∙ h.4.0, p.3 ∙ h.4.1, p.4))) fact,
+        let p = held h.1 t (h.0, h.2, h.3) h.4.2 in
+        (p.1.0, p.0, p.1.1, p.1.2, (p.2 ∙ h.4.0, p.3 ∙ h.4.1, p.4))) fact,
     snapshot_moves pieces table t (λ relation row h.
-    let p = piece_of h.1 (h.0, h.2, h.3) in
-    let c = contains_from_at table p.0 p.1 p.2 in
-    (c.0, p.1, c.1, c.2, (sym p.3.relation ∙ h.4.0, sym p.3.row ∙ h.4.1, p.3.part.within t h.4.2))) fact,
+        let p = piece_of h.1 (h.0, h.2, h.3) in
+        let c = contains_from_at table p.0 p.1 p.2 in
+        (c.0, p.1, c.1, c.2, (sym p.3.relation ∙ h.4.0, sym p.3.row ∙ h.4.1, p.3.part.within t h.4.2))) fact,
   )
 
   -- the fact of a piece at a place, and the places of the facts of all pieces of a match

@@ -77,10 +77,13 @@ of_relation (suc zero) row e =
     (λ h. absurd (omega (arith, relation, h)), λ h. absurd (omega (arith, relation, h)), λ _. omega arith)
 of_relation (suc (suc zero)) row e =
     let is : row_of (fact 2 (pos 7) (pos 12)) ≡ row = cc in
-    let relation : 2 ≡ row.relation = ap (λ (r : SeenRow). r.relation) is in
-    (λ h. absurd (omega (arith, relation, h)), λ _. sym is, λ h. ⊎_elim
-        (λ (p : row.relation ≡ 0). absurd (omega (arith, relation, p)))
-        (λ (p : row.relation ≡ 1). absurd (omega (arith, relation, p))) h)
+    let relation : 2 ≡ row.relation = ap (λ (r : SeenRow). r.relation) is in (
+      λ h. absurd (omega (arith, relation, h)),
+      λ _. sym is,
+      λ h. ⊎_elim
+          (λ (p : row.relation ≡ 0). absurd (omega (arith, relation, p)))
+          (λ (p : row.relation ≡ 1). absurd (omega (arith, relation, p))) h,
+    )
 of_relation (suc (suc (suc n))) row e = absurd cc
 
 holds_row : (n : ℕ) (t : ℤ) (row : SeenRow) → row_at (rows_of table) n ≡ Some row → HoldsAt (rows_of table) t n → Has row.span t
@@ -119,8 +122,11 @@ two_joined = record {
   numbers = 0 ∷ 1 ∷ [];
   rule = Contains-head (tgd_of (atom 0 ∷ atom 1 ∷ [])) [];
   fits = (Const a ∷ [], (record { relation = refl; cells = refl }, (record { relation = refl; cells = refl }, tt)));
-  meet = (pos 4, All-cons (HoldsAt (rows_of table) (pos 4)) 0 (1 ∷ []) (omega (arith, ints), omega (arith, ints))
-      (All-cons (HoldsAt (rows_of table) (pos 4)) 1 [] (omega (arith, ints), omega (arith, ints)) (All-nil (HoldsAt (rows_of table) (pos 4)))));
+  meet = (
+    pos 4,
+    All-cons (HoldsAt (rows_of table) (pos 4)) 0 (1 ∷ []) (omega (arith, ints), omega (arith, ints))
+        (All-cons (HoldsAt (rows_of table) (pos 4)) 1 [] (omega (arith, ints), omega (arith, ints)) (All-nil (HoldsAt (rows_of table) (pos 4)))),
+  );
   uses = (Contains-head 0 (1 ∷ []), Contains-cons 0 1 (1 ∷ []) (Contains-head 1 []));
 }
 
