@@ -11,7 +11,7 @@ use normaliser::normalise;
 use std::alloc::Global;
 use std::sync::ledger::Ledger;
 use term_core::{Memory, Steps};
-use tgd_chase::fire;
+use tgd_chase::{Fired, fire};
 use tgd_chase::laws::solutions_are_what_firing_facts_map_into;
 
 /// The target of a mapping without egds and queries: a table for each target relation, in their order, and the unknowns there.
@@ -34,16 +34,18 @@ pub fn exchange<L: Ledger>(
     rows_of_a_table_are_its_facts();
     solutions_are_what_firing_facts_map_into();
     let pieces = normalise(alloc, &loaded.table, &loaded.rules)?;
-    let fired = fire(alloc, &loaded.rules, &pieces, steps)?;
-    let relations = loaded.rules.targets().len();
-    let tables = tables_of(alloc, &fired.store, relations, steps)?;
-    let nulls = unknowns_of(alloc, tables.as_slice())?;
+    let Fired { store, firings } = fire(alloc, &loaded.rules, &pieces, steps)?;
     let counts = Counts {
         pieces: pieces.facts().len(),
-        firings: fired.firings.len(),
+        firings: firings.len(),
         steps: 0,
         cuts: 0,
     };
+    drop((pieces, firings));
+    let relations = loaded.rules.targets().len();
+    let tables = tables_of(alloc, &store, relations, steps)?;
+    drop(store);
+    let nulls = unknowns_of(alloc, tables.as_slice())?;
     Ok(Outcome::Solved(Solved {
         tables,
         nulls,

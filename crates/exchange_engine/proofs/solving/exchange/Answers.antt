@@ -15,22 +15,22 @@ use Rattle.exchange_engine.proofs.solving.exchange.Goals.{In_ok-tables}
 pub tables_of-requires : goal.tables_of-requires
 tables_of-requires g c =
     let rules : RuleSet = c.loaded.inside.rules in
-    let rows : List TargetFact = facts_in c.in_ok-fired.fired.store in
+    let rows : List TargetFact = facts_in c.in_ok-store.field-0.store in
     let size : c.len-relations.result ≡ length rules.targets = c.len-relations.ensures ∙ ap length c.targets.ensures in
     subst (λ (n : ℕ). All (λ (fact : TargetFact). fact.row.relation < n) rows) (sym size)
-    (rows_below rules c.is_kept-2.ensures c.in_ok-fired.fired.firings rows c.in_ok-fired.ensures.rows)
+    (rows_below rules c.is_kept-2.ensures c.in_ok-store.field-0.firings rows c.in_ok-store.ensures.rows)
 
 -- what has come of the mapping and the source
 chased : (g : _) (c : In_ok-tables g)
-    → IsChased c.args.loaded.now c.in_ok-pieces.pieces (facts_in c.in_ok-fired.fired.store) c.in_ok-tables.tables
+    → IsChased c.args.loaded.now c.in_ok-pieces.pieces (facts_in c.in_ok-store.field-0.store) c.in_ok-tables.tables
 chased g c =
     let rules : RuleSet = c.loaded.inside.rules in
     let size : c.len-relations.result ≡ length rules.targets = c.len-relations.ensures ∙ ap length c.targets.ensures in
-    let rows : List TargetFact = facts_in c.in_ok-fired.fired.store in
+    let rows : List TargetFact = facts_in c.in_ok-store.field-0.store in
     subst (λ (l : LoadedOf). IsChased l c.in_ok-pieces.pieces rows c.in_ok-tables.tables) c.loaded.view_is (record {
       valid = c.is_kept-2.ensures;
       same = c.in_ok-pieces.ensures.same;
-      hold = c.in_ok-fired.ensures.facts;
+      hold = c.in_ok-store.ensures.facts;
       size = c.in_ok-tables.ensures.size ∙ size;
       coalesced = c.in_ok-tables.ensures.coalesced;
       snapshots = c.in_ok-tables.ensures.same;
@@ -40,39 +40,39 @@ pub returns-clause-tables : goal.returns-clause-tables
 returns-clause-tables g c =
     let at = (goal.at.returns-clause-tables g c).In_ok-tables in
     are_wide c.args.loaded.now c.is_kept.ensures (c.rows_of_a_table_are_its_facts.ensures c.args.loaded.now.table)
-    c.in_ok-pieces.pieces (facts_in c.in_ok-fired.fired.store) c.in_ok-tables.tables (chased g at)
+    c.in_ok-pieces.pieces (facts_in c.in_ok-store.field-0.store) c.in_ok-tables.tables (chased g at)
 
 pub returns-clause-universal : goal.returns-clause-universal
 returns-clause-universal g c =
     let at = (goal.at.returns-clause-universal g c).In_ok-tables in
     universal c.args.loaded.now c.is_kept.ensures (c.rows_of_a_table_are_its_facts.ensures c.args.loaded.now.table)
-    c.in_ok-pieces.pieces (facts_in c.in_ok-fired.fired.store) c.in_ok-tables.tables (chased g at) c.requires.egds
+    c.in_ok-pieces.pieces (facts_in c.in_ok-store.field-0.store) c.in_ok-tables.tables (chased g at) c.requires.egds
     c.solutions_are_what_firing_facts_map_into.ensures.numbers
 
 pub returns-clause-made : goal.returns-clause-made
 returns-clause-made g c =
     let at = (goal.at.returns-clause-made g c).In_ok-tables in
     are_made c.args.loaded.now c.is_kept.ensures (c.rows_of_a_table_are_its_facts.ensures c.args.loaded.now.table)
-    c.in_ok-pieces.pieces (facts_in c.in_ok-fired.fired.store) c.in_ok-tables.tables (chased g at) c.in_ok-nulls.nulls
+    c.in_ok-pieces.pieces (facts_in c.in_ok-store.field-0.store) c.in_ok-tables.tables (chased g at) c.in_ok-nulls.nulls
     (subst (λ (l : List TermTable). AreUnknownsOf l c.in_ok-nulls.nulls) c.as_slice.ensures c.in_ok-nulls.ensures)
 
 pub returns-clause-within : goal.returns-clause-within
 returns-clause-within g c =
     let at = (goal.at.returns-clause-within g c).In_ok-tables in
     are_within c.args.loaded.now c.is_kept.ensures (c.rows_of_a_table_are_its_facts.ensures c.args.loaded.now.table)
-    c.in_ok-pieces.pieces (facts_in c.in_ok-fired.fired.store) c.in_ok-tables.tables (chased g at)
+    c.in_ok-pieces.pieces (facts_in c.in_ok-store.field-0.store) c.in_ok-tables.tables (chased g at)
 
 pub returns-clause-counts : goal.returns-clause-counts
 returns-clause-counts g c =
     let pieces : List Fact = c.in_ok-pieces.pieces in
-    let firings : List Firing = c.in_ok-fired.fired.firings in
+    let firings : List Firing = c.in_ok-store.field-0.firings in
     let counts : Counts = record { pieces = c.len.result; firings = c.len-2.result; steps = 0; cuts = 0 } in
     subst (λ (l : LoadedOf). AreCountsOf l counts) c.loaded.view_is (
       pieces,
       firings,
       c.in_ok-pieces.ensures.same,
       c.in_ok-pieces.ensures.apart,
-      c.in_ok-fired.ensures.firings,
+      c.in_ok-store.ensures.firings,
       c.len.ensures ∙ ap length c.facts.ensures.value,
       c.len-2.ensures,
       refl,
