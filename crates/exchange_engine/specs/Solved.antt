@@ -17,10 +17,10 @@ use Rattle.rule_core.specs.Solution.{IsUniversal}
 use Rattle.rule_core.specs.Coalesced.{IsCoalesced}
 use Rattle.rule_core.specs.Firing.{frontier_of}
 use Rattle.fact_table.specs.declared.fact.Fact.{Fact}
-use Rattle.fact_table.specs.Snapshots.{snapshot_of}
-use Rattle.normaliser.specs.Normalised.{HaveSameSnapshots, IsEqualOrDisjoint}
+use Rattle.fact_table.specs.Snapshots.{snapshot_of, stamped_facts}
+use Rattle.normaliser.specs.Normalised.{IsNormalised}
 use Rattle.failure_trace.specs.declared.firing.Firing.{Firing}
-use Rattle.tgd_chase.specs.Fired.{AreFirings}
+use Rattle.failure_trace.specs.Firings.{AreFirings}
 use Rattle.exchange_engine.specs.Loading.{LoadedOf}
 use Rattle.exchange_engine.specs.declared.outcome.Counts.{Counts}
 use Rattle.exchange_engine.specs.declared.outcome.Solved.{Solved}
@@ -68,11 +68,10 @@ abbrev pub IsMadeBy : RuleSet → HeldUnknown → Type 0
 IsMadeBy rules u = IsSomeAnd (slice_get rules.tgds u.rule)
     (λ tgd. (length u.frontier ≡ length (frontier_of tgd)) × (tgd.body_vars + u.var < length tgd.vars))
 
--- some table with the source's snapshots, equal or disjoint, has so many facts, and so many firings come of it; nothing was
--- made equal or cut
+-- the normalised table of the source has so many facts, and so many firings come of it; nothing was made equal or cut
 abbrev pub AreCountsOf : LoadedOf → Counts → Type 0
 AreCountsOf loaded counts = (pieces : List Fact) × (firings : List Firing)
-    × HaveSameSnapshots loaded.table pieces × IsEqualOrDisjoint loaded.rules pieces × AreFirings loaded.rules pieces firings
+    × IsNormalised loaded.rules loaded.table pieces × AreFirings loaded.rules (stamped_facts pieces) firings
     × (counts.pieces ≡ length pieces) × (counts.firings ≡ length firings) × (counts.steps ≡ 0) × (counts.cuts ≡ 0)
 
 -- what holds of what was solved

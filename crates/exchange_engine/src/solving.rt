@@ -33,7 +33,7 @@ pub fn exchange<L: Ledger>(
     loaded.rules.is_kept();
     rows_of_a_table_are_its_facts();
     solutions_are_what_firing_facts_map_into();
-    let pieces = normalise(alloc, &loaded.table, &loaded.rules)?;
+    let pieces = normalise(alloc, &loaded.table, &loaded.rules, steps)?;
     let Fired { store, firings } = fire(alloc, &loaded.rules, &pieces, steps)?;
     let counts = Counts {
         pieces: pieces.facts().len(),

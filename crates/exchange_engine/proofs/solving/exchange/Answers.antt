@@ -70,8 +70,7 @@ returns-clause-counts g c =
     subst (λ (l : LoadedOf). AreCountsOf l counts) c.loaded.view_is (
       pieces,
       firings,
-      c.in_ok-pieces.ensures.same,
-      c.in_ok-pieces.ensures.apart,
+      c.in_ok-pieces.ensures.normalised,
       c.in_ok-store.ensures.firings,
       c.len.ensures ∙ ap length c.facts.ensures.value,
       c.len-2.ensures,
