@@ -1,5 +1,5 @@
 -- The cuts of facts of groups, and parts of a list in order.
-use Rattle.std.proofs.Common.{◌≡◌, ◌↔◌, ◌⊎◌, ℕ, ℤ, ◌==◌, ◌+◌, ◌-◌, ◌<◌, ◌≤◌, ◌<ℤ◌, Bool, true, false, nat_lt, Some, None, Option, List, [], ◌∷◌, ◌++◌, length, map, get_or, set, take, drop, replicate, refl, sym, ap, ◌∙◌, subst, inl, inr, ⊎_elim, arith, AllPairs, Contains, slice_get, slice_index}
+use Rattle.std.proofs.Common.{◌≡◌, ◌↔◌, ◌⊎◌, ℕ, ℤ, ◌==◌, ◌+◌, ◌-◌, ◌<◌, ◌≤◌, ◌<ℤ◌, Bool, true, false, nat_lt, Some, List, length, get_or, set, take, drop, replicate, refl, sym, ap, ◌∙◌, subst, inl, inr, ⊎_elim, arith, AllPairs, Contains, slice_get, slice_index}
 use Rattle.std.specs.Prelude.{IsSomeAnd, ◌||◌, ◌&&◌}
 use Rattle.std.specs.Bool.{Decides}
 use Rattle.std.specs.Cmp.{IsTotalOrder, IsEquivalence}
@@ -16,7 +16,6 @@ use Rattle.std.specs.List.Sorted.{IsPermutation, IsSorted, IsPartitionedBy, IsPa
 use Rattle.std.proofs.lemmas.Bool.{cases_lt}
 use Rattle.std.proofs.lemmas.Bool.Decides.{nat_tests, Decides-eqb, Decides-ltb, Decides-and, Decides-or}
 use Rattle.std.proofs.lemmas.Cmp.{int_ranked, then_total, on_total, nat_cmp_total, int_cmp_total}
-use Rattle.std.proofs.lemmas.Int.{ints}
 use Rattle.std.proofs.lemmas.List.{get_or-drop, length-drop, get_or-take, length-take-le, get_or-set_same, get_or-set_other, length-set, get_or-replicate, get_or_past, length-replicate}
 use Rattle.time_line.specs.Span.{Ends, IsInside, IsWithinLimit}
 use Rattle.rule_core.proofs.ListLemmas.{Contains-map, Contains-from_map, AllPairs-map, AllPairs-members_weaker}
@@ -25,7 +24,7 @@ use Rattle.body_match.proofs.ListLemmas.{within_from_at}
 use Rattle.body_match.proofs.SearchLemmas.{some_and, and_some, same_some}
 use Rattle.normaliser.specs.declared.cuts.Cut.{Cut}
 use Rattle.normaliser.specs.Normalised.{IsEndOf}
-use Rattle.normaliser.specs.Cuts.{cut, cut_cmp, AreCutsInOrder, AreInOrder, IsCutAt, AddsCut, ats, AreWithinLimit, IsShared, AreShared, IsEndAmong, AreCuts, AddsCuts, is_up_to, is_before, is_up_to_start, is_before_stop}
+use Rattle.normaliser.specs.Cuts.{cut, cut_cmp, AreCutsInOrder, AreInOrder, IsCutAt, AddsCut, ats, AreWithinLimit, IsShared, AreShared, AreCuts, AddsCuts, is_up_to, is_before, is_up_to_start, is_before_stop}
 use Rattle.normaliser.proofs.InsideLemmas.{inside_tests}
 use Rattle.normaliser.proofs.LabelLemmas.{same_or_not}
 

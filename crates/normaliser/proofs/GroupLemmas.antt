@@ -1,6 +1,5 @@
 -- Groups by the matches of tgds' bodies.
-use Rattle.std.proofs.Common.{◌≡◌, ◌⊎◌, ◌↔◌, ℕ, zero, suc, ℤ, ◌+◌, ◌<◌, ◌≤◌, Option, Some, None, List, [], ◌∷◌, ◌++◌, length, get_or, map, take, append-nil, refl, sym, ap, ◌∙◌, subst, inl, inr, ⊎_elim, arith, All, Contains, slice_get, slice_index}
-use Rattle.std.specs.Prelude.{IsSomeAnd}
+use Rattle.std.proofs.Common.{◌≡◌, ◌↔◌, ℕ, zero, suc, ℤ, ◌+◌, ◌<◌, ◌≤◌, Option, Some, None, List, [], ◌∷◌, ◌++◌, length, get_or, take, append-nil, refl, sym, ap, ◌∙◌, subst, inl, inr, ⊎_elim, arith, All, Contains, slice_get, slice_index}
 use Rattle.std.specs.List.{AllZip}
 use Rattle.std.specs.Ordering.{ord_max, ord_min}
 use Rattle.std.proofs.lemmas.Bool.{cases_lt}
@@ -8,7 +7,6 @@ use Rattle.std.proofs.lemmas.List.{length-take-le, length-map, append_assoc, tak
 use Rattle.std.specs.List.{range_with_len}
 use Rattle.std.proofs.lemmas.List.FromFn.{length-range_with_len, get_or-range_with_len}
 use Rattle.std.proofs.lemmas.List.Elements.{All-nil, All-cons, All-head, All-tail, All-contains, Contains-append_left, Contains-append_right, Contains-append_cases, Contains-push_cases}
-use Rattle.std.proofs.lemmas.Option.{slice_get-get_or}
 use Rattle.time_line.specs.Span.{Ends, Has, start_cmp, stop_cmp}
 use Rattle.time_line.proofs.SpanLemmas.{IsMeet-from_ends}
 use Rattle.term_core.specs.declared.term.Seen.{Seen}
@@ -27,10 +25,10 @@ use Rattle.body_match.specs.Visits.{TakesInTurn}
 use Rattle.body_match.proofs.ListLemmas.{at_within, within_from_at, contains_from_at, at_from_contains, maps_at, maps_from_each, zip_at, zip_length, zip_from_each}
 use Rattle.body_match.proofs.PlaceLemmas.{atom_from_occurs, occurs_from_atom}
 use Rattle.body_match.proofs.SearchLemmas.{some_and, and_some, same_some}
-use Rattle.normaliser.specs.Normalised.{IsTimelessMatch, MeetInTime, AreJoined, Reaches, AreOfOneGroup, AreLeastPlaces}
+use Rattle.normaliser.specs.Normalised.{IsTimelessMatch, MeetInTime, AreJoined, Reaches, AreLeastPlaces}
 use Rattle.normaliser.specs.Normalised.Reaches.{here, step}
 use Rattle.normaliser.specs.Labels.{Edge, IsEdge, AreLabels, star, AreBelow, Unites, IsEdgeOf, UnitesMatches}
-use Rattle.normaliser.proofs.LabelLemmas.{reaches_more, reaches_on, reaches_back}
+use Rattle.normaliser.proofs.LabelLemmas.{reaches_more}
 
 -- the row of a table at a place is the fact there
 pub fact_at : (table : List Fact) (n : ℕ) (row : SeenRow) → row_at (rows_of table) n ≡ Some row

@@ -5,7 +5,7 @@ use Rattle.std.specs.declared.cmp.Ordering.TheVariants.{Less, Equal, Greater}
 use Rattle.std.proofs.lemmas.Int.{ints, by_lt_z}
 use Rattle.std.proofs.lemmas.Cmp.{tied_itself}
 use lib.Signed.{≤ℤ_refl}
-use Rattle.time_line.specs.Span.{Ends, IsFrom, IsBefore, Has, AreApart, IsInside, AreParts, span_cmp}
+use Rattle.time_line.specs.Span.{Ends, IsFrom, IsBefore, Has, AreApart, IsInside, span_cmp}
 use Rattle.time_line.specs.SpanOrder.{span_cmp-total}
 use Rattle.normaliser.specs.Normalised.{IsEndOf}
 use Rattle.normaliser.specs.Cuts.{is_up_to_start, is_before_stop}

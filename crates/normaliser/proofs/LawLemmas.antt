@@ -1,5 +1,5 @@
 -- What the pieces of a table hold, and that rows of them that match have one span.
-use Rattle.std.proofs.Common.{◌≡◌, ◌⊎◌, ◌↔◌, ℕ, zero, suc, ℤ, pos, ◌≤ℤ◌, ◌<ℤ◌, ◌-ℤ◌, Bool, true, false, Option, Some, None, List, [], ◌∷◌, ◌++◌, length, map, refl, sym, ap, ◌∙◌, subst, inl, inr, ⊎_elim, rules, arith, All, Contains, slice_get}
+use Rattle.std.proofs.Common.{◌≡◌, ◌⊎◌, ℕ, zero, suc, ℤ, pos, ◌≤ℤ◌, ◌<ℤ◌, ◌-ℤ◌, Bool, true, false, Option, Some, None, List, [], ◌∷◌, ◌++◌, map, refl, sym, ap, ◌∙◌, subst, inl, inr, ⊎_elim, rules, arith, All, Contains, slice_get}
 use Rattle.std.specs.Prelude.{IsSomeAnd}
 use Rattle.std.specs.List.{AllZip}
 use Rattle.std.specs.declared.cmp.Ordering.{Ordering}
@@ -7,8 +7,7 @@ use Rattle.std.specs.declared.cmp.Ordering.TheVariants.{Less, Equal, Greater}
 use Rattle.std.proofs.lemmas.Cmp.{tied_itself}
 use Rattle.std.proofs.lemmas.Int.{ints, by_lt_z}
 use Rattle.std.proofs.lemmas.List.Elements.{All-nil, All-cons, All-head, All-tail, All-contains, Contains-append_left, Contains-append_right}
-use lib.Signed.{≤ℤ_refl}
-use Rattle.time_line.specs.Span.{Ends, IsFrom, IsBefore, Has, HasInstant, IsInside, span_cmp}
+use Rattle.time_line.specs.Span.{Ends, IsFrom, IsBefore, Has, IsInside, span_cmp}
 use Rattle.time_line.specs.SpanOrder.{span_cmp-total}
 use Rattle.term_core.specs.declared.const_id.ConstId.{ConstId}
 use Rattle.term_core.specs.declared.term.Seen.{Seen}
@@ -20,15 +19,14 @@ use Rattle.rule_core.proofs.ListLemmas.{Contains-head, Contains-cons, Contains-c
 use Rattle.rule_core.proofs.SnapshotLemmas.{Decides-has}
 use Rattle.rule_core.specs.Snapshot.{has}
 use Rattle.fact_table.specs.declared.fact.Fact.{Fact}
-use Rattle.fact_table.specs.Facts.{HasAt, fact_cmp}
+use Rattle.fact_table.specs.Facts.{fact_cmp}
 use Rattle.fact_table.specs.Rows.{SeenRow, row_at, row_of, rows_of}
 use Rattle.fact_table.proofs.OrderLemmas.{fact_cmp-total, fact_cmp-IsAntisymmetric}
 use Rattle.body_match.specs.Matches.{seen_value, IsImage, IsImageAt, HoldsAt}
 use Rattle.body_match.proofs.ListLemmas.{contains_from_at, at_from_contains}
 use Rattle.body_match.proofs.SearchLemmas.{some_and, and_some, same_some}
-use Rattle.normaliser.specs.Normalised.{HaveSameSnapshots, AreEqualInTime, AreDisjointInTime, IsEqualOrDisjoint, AreJoined, Reaches, IsEndOf, IsEndInGroup, IsPartOf, IsPieceOf, IsPieceIn, IsNormalised}
+use Rattle.normaliser.specs.Normalised.{HaveSameSnapshots, AreEqualInTime, AreDisjointInTime, IsEqualOrDisjoint, AreJoined, IsEndOf, IsEndInGroup, IsPartOf, IsPieceOf, IsNormalised}
 use Rattle.normaliser.specs.Normalised.Reaches.{here, step}
-use Rattle.normaliser.proofs.LabelLemmas.{reaches_on, reaches_back}
 use Rattle.normaliser.proofs.InsideLemmas.{IsFrom-later, IsBefore-earlier, inside_whole, same_span}
 use Rattle.normaliser.proofs.GroupLemmas.{fact_at, row_from_fact, row_there}
 use Rattle.normaliser.proofs.SnapshotLemmas.{snapshot_moves}

@@ -1,16 +1,15 @@
 -- The pieces by the cuts of groups are those of the normalised table.
-use Rattle.std.proofs.Common.{◌≡◌, ◌⊎◌, ◌↔◌, ℕ, ℤ, ◌<◌, ◌≤◌, Some, List, length, refl, sym, ap, ◌∙◌, subst, inl, inr, ⊎_elim, arith, Contains, slice_get, slice_index}
-use Rattle.std.specs.Prelude.{IsSomeAnd}
-use Rattle.time_line.specs.Span.{Ends, IsInside}
+use Rattle.std.proofs.Common.{◌≡◌, ◌↔◌, ℕ, ℤ, ◌<◌, Some, List, length, refl, sym, ◌∙◌, subst, inl, inr, ⊎_elim, arith, Contains, slice_get, slice_index}
+use Rattle.time_line.specs.Span.{IsInside}
 use Rattle.rule_core.specs.Mapping.{RuleSet}
 use Rattle.fact_table.specs.declared.fact.Fact.{Fact}
 use Rattle.fact_table.specs.Facts.{IsTable}
 use Rattle.body_match.proofs.ListLemmas.{within_from_at}
 use Rattle.body_match.proofs.SearchLemmas.{some_and, and_some, same_some}
 use Rattle.normaliser.specs.declared.cuts.Cut.{Cut}
-use Rattle.normaliser.specs.Normalised.{AreJoined, Reaches, AreOfOneGroup, AreLeastPlaces, IsEndOf, IsEndInGroup, IsPieceOf, IsPieceIn, IsNormalised}
+use Rattle.normaliser.specs.Normalised.{AreOfOneGroup, AreLeastPlaces, IsEndOf, IsEndInGroup, IsPieceOf, IsNormalised}
 use Rattle.normaliser.specs.Normalised.Reaches.{here}
-use Rattle.normaliser.specs.Cuts.{cut, IsShared, IsEndAmong, IsCutAt, AreCuts}
+use Rattle.normaliser.specs.Cuts.{cut, IsShared, IsCutAt, AreCuts}
 use Rattle.normaliser.specs.Pieces.{ArePieces}
 use Rattle.normaliser.proofs.LabelLemmas.{same_or_not, reaches_on, reaches_back}
 use Rattle.normaliser.proofs.InsideLemmas.{inside_whole, end_is_outside, end_or_inside}

@@ -5,7 +5,7 @@ use Rattle.std.proofs.lemmas.Int.{ints}
 use Rattle.std.specs.Prelude.{IsSomeAnd, slice_get}
 use Rattle.std.specs.List.{AllZip}
 use Rattle.std.proofs.lemmas.List.Elements.{All-nil, All-cons, All-head, All-tail}
-use Rattle.time_line.specs.Span.{Ends, Has, IsInside}
+use Rattle.time_line.specs.Span.{Has, IsInside}
 use Rattle.term_core.specs.declared.const_id.ConstId.{ConstId}
 use Rattle.term_core.specs.declared.term.Seen.{Seen}
 use Rattle.term_core.specs.declared.term.Seen.TheVariants.{Const}

@@ -5,13 +5,13 @@ use Rattle.std.specs.List.{AllWithin}
 use Rattle.std.proofs.lemmas.Int.{ints, by_lt_z}
 use Rattle.std.proofs.lemmas.Bool.{cases_lt}
 use Rattle.std.proofs.lemmas.List.{append_assoc, get_or_default}
-use Rattle.std.proofs.lemmas.List.Elements.{All-nil, All-push, All-contains, Contains-get_or, Contains-append_left, Contains-append_right, Contains-push, Contains-append_cases}
+use Rattle.std.proofs.lemmas.List.Elements.{All-nil, All-push, All-contains, Contains-append_left, Contains-append_right, Contains-push, Contains-append_cases}
 use lib.Signed.{≤ℤ_refl}
 use Rattle.time_line.specs.Span.{Ends, Has, HasInstant, IsInside, AreParts}
 use Rattle.fact_table.specs.declared.fact.Fact.{Fact}
 use Rattle.body_match.proofs.ListLemmas.{within_from_at}
 use Rattle.body_match.proofs.SearchLemmas.{some_and, and_some, same_some}
-use Rattle.normaliser.specs.Normalised.{IsEndOf, IsPartOf, IsPieceOf}
+use Rattle.normaliser.specs.Normalised.{IsEndOf, IsPieceOf}
 use Rattle.normaliser.specs.Cuts.{AreInOrder}
 use Rattle.normaliser.specs.Pieces.{AddsPieces, over, IsCutOff, IsNotCut}
 use Rattle.normaliser.proofs.InsideLemmas.{inside_whole, end_is_outside, same_span}

@@ -46,8 +46,7 @@ fn unite_matches<L: Ledger>(
     if tgd.body.len() < 2 {
         return Ok(());
     }
-    if !visit_matches(alloc, &tgd.body, tgd.body_vars, table, union, steps)? {
-        return Err(Memory);
-    }
+    let whole = visit_matches(alloc, &tgd.body, tgd.body_vars, table, union, steps)?;
+    prove!(whole);
     Ok(())
 }

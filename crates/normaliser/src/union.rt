@@ -60,6 +60,8 @@ fn places_below(alloc: Global, count: usize) -> Result<Vec<usize>, Memory>
 impl Visitor for Union {
     ghost takes = { λ old found new. Unites found.rows old new };
 
+    ghost stops = { λ _. ⊥ };
+
     fn visit(&mut self, found: &Match) -> Result<bool, Memory> {
         unite(&mut self.parents, found.rows.as_slice());
         Ok(true)

@@ -1,4 +1,4 @@
-use Rattle.std.proofs.Common.{◌≡◌, ℤ, true, false, Option, Result, Ok, Err, List, subst}
+use Rattle.std.proofs.Common.{ℤ, Option, Result, Ok, Err, List, subst}
 use Rattle.std.specs.Result.{OnOk}
 use Rattle.normaliser.specs.declared.cuts.Cut.{Cut}
 use Rattle.normaliser.specs.Cuts.{AddsCut, AddsCuts}

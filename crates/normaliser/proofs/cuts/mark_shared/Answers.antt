@@ -1,4 +1,3 @@
-use Rattle.std.proofs.Common.{◌≡◌, ◌<◌, ◌≤◌, ℕ, true, false, length, get_or, sym, ◌∙◌, arith}
 use Rattle.normaliser.proofs.CutLemmas.{shared_none, shared_marked, shared_all}
 use Rattle.normaliser.proofs.cuts.mark_shared.Goals as goal
 

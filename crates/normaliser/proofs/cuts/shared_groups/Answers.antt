@@ -1,4 +1,4 @@
-use Rattle.std.proofs.Common.{◌≡◌, false, length, get_or, replicate, sym, ◌∙◌, subst, rules}
+use Rattle.std.proofs.Common.{length, rules}
 use Rattle.normaliser.proofs.CutLemmas.{never_marked}
 use Rattle.normaliser.proofs.cuts.shared_groups.Goals as goal
 

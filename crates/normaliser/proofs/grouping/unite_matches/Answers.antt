@@ -8,6 +8,6 @@ returns-then-len-lt2 g c =
 
 pub returns : goal.returns
 returns g c =
-    let visits = c.in_ok-visit_matches.ensures.visits in
-    unites_all c.args.tgd.now c.args.table.now visits.0 visits.1 visits.2 (visits.3 c.if-not-branch.false) c.args.union.now
+    let visits = c.in_ok-whole.ensures.visits in
+    unites_all c.args.tgd.now c.args.table.now visits.0 visits.1 visits.2 (visits.3 c.if-prove.false) c.args.union.now
     c.visit_matches.new.visitor visits.4

@@ -1,4 +1,4 @@
-use Rattle.std.proofs.Common.{◌≡◌, ℕ, Some, List, length, get_or, sym, ap, ◌∙◌, arith}
+use Rattle.std.proofs.Common.{Some, List, sym, ap, ◌∙◌}
 use Rattle.std.proofs.lemmas.Option.{slice_get-get_or}
 use Rattle.fact_table.specs.declared.fact.Fact.{Fact}
 use Rattle.normaliser.specs.Cuts.{IsCutAt}

@@ -3,7 +3,7 @@ use Rattle.std.specs.Result.{IfOk}
 use Rattle.fact_table.specs.declared.fact.Fact.{Fact}
 use Rattle.fact_table.specs.Facts.{IsTable}
 use Rattle.normaliser.specs.declared.cuts.Cut.{Cut}
-use Rattle.normaliser.specs.Normalised.{AreLeastPlaces, IsNormalised, HaveSameSnapshots, IsEqualOrDisjoint}
+use Rattle.normaliser.specs.Normalised.{IsNormalised, HaveSameSnapshots, IsEqualOrDisjoint}
 use Rattle.normaliser.specs.Cuts.{AreCuts}
 use Rattle.normaliser.specs.Pieces.{ArePieces}
 use Rattle.normaliser.proofs.LawLemmas.{same_snapshots, equal_or_disjoint}

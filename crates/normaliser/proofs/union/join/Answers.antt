@@ -1,4 +1,4 @@
-use Rattle.std.proofs.Common.{◌≡◌, ℕ, ◌<◌, max, min, List, length, get_or, set, map, sym, ap, ◌∙◌, arith}
+use Rattle.std.proofs.Common.{◌≡◌, ℕ, ◌<◌, List, length, get_or, set, map, ap, ◌∙◌, arith}
 use Rattle.normaliser.specs.Labels.{labels_of, merged}
 use Rattle.normaliser.proofs.LabelLemmas.{labels_joined}
 use Rattle.normaliser.proofs.union.join.Goals as goal

@@ -1,5 +1,5 @@
 -- The label of the place so far is that of the place; other parents so far, and no other labels.
-use Rattle.std.proofs.Common.{◌≡◌, ◌<◌, ◌≤◌, length, slice_index}
+use Rattle.std.proofs.Common.{◌≡◌, ◌<◌, length, slice_index}
 use Rattle.normaliser.specs.Labels.{AreParents, labels_of}
 use Rattle.normaliser.proofs.union.root.Given as goal
 

@@ -1,4 +1,4 @@
-use Rattle.std.proofs.Common.{◌≡◌, ℕ, ◌<◌, List, length, get_or, sym, ◌∙◌, arith}
+use Rattle.std.proofs.Common.{ℕ, List, sym, ◌∙◌, arith}
 use Rattle.normaliser.specs.Labels.{labels_of}
 use Rattle.normaliser.proofs.LabelLemmas.{unites_more, length-labels_of}
 use Rattle.normaliser.proofs.union.unite.Goals as goal

@@ -1,5 +1,4 @@
-use Rattle.std.proofs.Common.{◌≡◌, ℕ, ◌<◌, ◌≤◌, length, get_or, sym, ap, ◌∙◌, subst, arith}
-use Rattle.std.specs.List.{range_with_len}
+use Rattle.std.proofs.Common.{sym, ap, ◌∙◌, subst}
 use Rattle.normaliser.specs.Labels.{AreParents, labels_of}
 use Rattle.normaliser.proofs.LabelLemmas.{own_parents, own_labels}
 use Rattle.normaliser.proofs.union.Union.new.Goals as goal
