@@ -1,0 +1,14 @@
+//! Calls that no run of the program reaches, each with ample memory. There is no code here but tests; what a run reaches is
+//! shown by the rows of `worked_rows`.
+#![tactic(auto)]
+
+#[cfg(test)]
+mod adapters;
+#[cfg(test)]
+mod grouping;
+#[cfg(test)]
+mod lists;
+#[cfg(test)]
+mod texts;
+#[cfg(test)]
+mod traces;
