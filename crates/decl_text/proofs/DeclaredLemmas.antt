@@ -22,7 +22,7 @@ new_name rules name =
     (each (λ (r : Relation). r.name ≢ name) (λ r. denied (same_text r.name name)) rules.targets)
 
 -- the tests of each token come to some outcome
-some_outcome : (rules : RuleSet) (position : DeclarationPosition) → IsOpen position → (lexeme : Lexeme) → Some (declaration_tests rules position lexeme)
+pub some_outcome : (rules : RuleSet) (position : DeclarationPosition) → IsOpen position → (lexeme : Lexeme) → Some (declaration_tests rules position lexeme)
 some_outcome rules begins open_ token =
     When-some (is_keyword token (codes "source")) (λ word. Goes-some (wants_name Source))
     (When-some (is_keyword token (codes "target")) (λ word. Goes-some (wants_name Target)) (Stops-some X5))

@@ -17,4 +17,5 @@ pub mod PassLemmas
 pub mod FitLemmas
 pub mod WrittenLemmas
 pub mod PrintedLemmas
+pub mod LexemeLemmas
 mod CanonicalFacts

@@ -34,7 +34,7 @@ says_once bytes token a b p q =
     (text_once token.kind (take (token.end - token.start) (drop token.start bytes)) a.text b.text p.text q.text)
 
 -- the end of the text says nothing
-finish_says : (bytes : List ℕ) (token : Token) (lexeme : Lexeme) → token.kind ≡ Finish → Says bytes token lexeme
+pub finish_says : (bytes : List ℕ) (token : Token) (lexeme : Lexeme) → token.kind ≡ Finish → Says bytes token lexeme
     → lexeme ≡ record { kind = Finish; text = [] }
 finish_says bytes token lexeme finish says =
     lexeme_same lexeme (record { kind = Finish; text = [] }) (says.kind ∙ finish)

@@ -6,3 +6,4 @@ pub mod TokenList
 pub mod Parts
 pub mod Declaration
 pub mod Canonical
+pub mod Lexemes

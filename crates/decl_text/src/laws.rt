@@ -14,6 +14,7 @@ ghost use Rattle.decl_text.specs.Tokens.{IsNextToken, IsNextFault, IsTokenAt, Is
 ghost use Rattle.decl_text.specs.Tests.{IsDecided, Says, Pass};
 ghost use Rattle.decl_text.specs.Declaration.{begins, declared, declaration_tests, IsDeclaration, FailsDeclaration};
 ghost use Rattle.decl_text.specs.Canonical.{declaration_text};
+ghost use Rattle.decl_text.specs.Lexemes.{declaration_lexemes, SayLine};
 
 /// From a place on, one token stands next, or one fault, and not both: so what `next_token` answers is all
 /// that the definitions allow.
@@ -98,4 +99,20 @@ pub fn declarations_are_read_back()
         → IsValid (with_relation rules place relation)
         → IsDeclaration (before ++ (declaration_text place relation ++ rest)) rules (length before) place relation
         (length before + length (declaration_text place relation)) }
+{}
+
+/// A declaration is said in one way: the tokens of each line that declares a relation say its words and signs, one
+/// each in their order, and then the line ends; and so do the tokens of its canonical line. So two lines that declare
+/// one relation differ in blanks, comments and how they end alone.
+pub fn declarations_are_said_in_one_way()
+    ensures line { (bytes : List ℕ) (rules : RuleSet) (from : ℕ) (place : PlaceValue)
+        → (relation : RelationValue) (tokens : List TokenValue) (to : ℕ)
+        → Pass (declaration_tests rules) bytes from begins tokens to (declared place relation)
+        → SayLine bytes tokens (declaration_lexemes place relation) }
+    ensures canonical { (before rest : List ℕ) (rules : RuleSet) (place : PlaceValue) (relation : RelationValue)
+        → IsValid (with_relation rules place relation)
+        → (tokens : List TokenValue)
+        × Pass (declaration_tests rules) (before ++ (declaration_text place relation ++ rest)) (length before) begins tokens
+        (length before + length (declaration_text place relation)) (declared place relation)
+        × SayLine (before ++ (declaration_text place relation ++ rest)) tokens (declaration_lexemes place relation) }
 {}

@@ -2,8 +2,10 @@ pub mod QuotedLemmas
 pub mod PlacedLemmas
 pub mod LineLemmas
 pub mod PoolLemmas
+pub mod SortedLemmas
 pub mod ReadsLemmas
 pub mod OneMapping
+pub mod OutcomeLemmas
 pub mod FrontLemmas
 pub mod TextsLemmas
 pub mod BackLemmas

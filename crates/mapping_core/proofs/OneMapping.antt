@@ -23,7 +23,7 @@ use Rattle.mapping_core.specs.Mapping.{Meaning}
 use Rattle.mapping_core.specs.Reading.{MappingPosition, at_line, in_declaration, in_rule, of_declaration, of_rule, placed, Within, mapping_tests, no_rules, IsPoolOf, IsMapping, IsFirstFault}
 
 -- the end of the text
-abbrev the_end : Lexeme
+abbrev pub the_end : Lexeme
 the_end = record { kind = Finish; text = [] }
 
 no_going_stop : {P : Type 0} (p : P) (code : Code) → goes p ≡ stops code → ⊥
@@ -109,7 +109,7 @@ rule_end set pool (wants_line_end rule) next h = (rule, going_same next (stated 
 rule_end set pool (stated rule) next h = absurd h
 
 -- where the end of the text passes, a line begins
-line_after_end : (pool : List (List ℕ)) (position next : MappingPosition) → mapping_tests pool position the_end (goes next)
+pub line_after_end : (pool : List (List ℕ)) (position next : MappingPosition) → mapping_tests pool position the_end (goes next)
     → (set : RuleSet) × (next ≡ at_line set)
 line_after_end pool (at_line set) next (inl h) = (set, going_same next (at_line set) h.1)
 line_after_end pool (at_line set) next (inr h) = absurd (h.0 (inr refl))

@@ -156,10 +156,10 @@ new_rule_name : (rules : RuleSet) (name : List ℕ) → Decided (IsNewRuleName r
 new_rule_name rules name = each (λ other. other ≢ name) (λ other. denied (same_text other name)) (rule_names rules)
 
 -- a text in quotes is in the pool
-abbrev IsKnown : List (List ℕ) → Lexeme → Type 0
+abbrev pub IsKnown : List (List ℕ) → Lexeme → Type 0
 IsKnown pool lexeme = lexeme.kind ≡ Quoted → Contains pool lexeme.text
 
-some_outcome : (rules : RuleSet) (pool : List (List ℕ)) (position : RulePosition) → IsOpen position → (token : Lexeme) → IsKnown pool token
+pub some_outcome : (rules : RuleSet) (pool : List (List ℕ)) (position : RulePosition) → IsOpen position → (token : Lexeme) → IsKnown pool token
     → Some (rule_tests rules pool position token)
 some_outcome rules pool begins here token known =
     When-some (is_keyword token (codes "tgd")) (λ word. Goes-some wants_tgd_name)
@@ -224,7 +224,7 @@ some_outcome rules pool (wants_right name said left) here token known =
 some_outcome rules pool (wants_line_end rule) here token known = Test-some (ends_line token) (λ end. Goes-some (stated rule))
 some_outcome rules pool (stated rule) here token known = absurd here
 
-open_or_stated : (position : RulePosition) → IsOpen position ⊎ ((rule : Rule) × (position ≡ stated rule))
+pub open_or_stated : (position : RulePosition) → IsOpen position ⊎ ((rule : Rule) × (position ≡ stated rule))
 open_or_stated (stated rule) = inr (rule, refl)
 open_or_stated begins = inl tt
 open_or_stated wants_tgd_name = inl tt
