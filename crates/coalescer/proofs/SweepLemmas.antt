@@ -18,7 +18,7 @@ use Rattle.rule_core.specs.Coalesced.{Covers, stamped_cmp, AreSeparate, IsCoales
 use Rattle.rule_core.proofs.CoalescedLemmas.{stamped_cmp-total}
 use Rattle.rule_core.proofs.ListLemmas.{Contains-head, Contains-cons, Contains-cons_cases, Contains-nil, AllPairs-head, AllPairs-tail}
 
--- ---- two spans
+-- two spans
 
 -- what is from the start of the second on is from the start of the first on
 abbrev StartsUpTo : Ends → Ends → Type 0
@@ -124,7 +124,7 @@ gap_away a b in_a in_b gap (inr s) = by_back b.hi a.lo refl refl s
         let four : in_b.0 <ℤ hi = rw p at in_b.1.1 in
         absurd (omega (arith, ints))
 
--- ---- lists
+-- lists
 
 -- a list with one more element, whose elements stand in pairs
 AllPairs-front : {X : Type 0} (R : X → X → Type 0) (xs : List X) (y : X) → AllPairs R (xs ++ y ∷ []) → AllPairs R xs
@@ -141,7 +141,7 @@ AllPairs-last R xs y pairs x c =
     let both = pairs c.0 (length xs) x c.1 (omega (arith, length-append xs (y ∷ []))) in
     subst (λ z. R z y) e (subst (λ z. R (get_or (xs ++ y ∷ []) c.0 x) z) f both)
 
--- ---- entries
+-- entries
 
 module _ {X : Type 0} (cmp : X → X → Ordering) where
   abbrev Entry : Type 0

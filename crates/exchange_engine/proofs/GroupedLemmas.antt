@@ -24,7 +24,7 @@ use Rattle.exchange_engine.specs.Solved.{TermTable, AreCoalesced}
 use Rattle.exchange_engine.specs.Grouped.{table_facts, AreBelow, IsRowOf, HaveFacts, AddsRow, IsCoalescedFrom, HoldSnapshotsOf}
 use Rattle.exchange_engine.proofs.TableFactLemmas.{Entry, TargetFact, fact_for, in_facts, from_facts, more_facts}
 
--- ---- one row
+-- one row
 
 module _ (store : Store) (number : ℕ) where
   -- the terms are those of the row's first cells
@@ -78,7 +78,7 @@ module _ (store : Store) (number : ℕ) where
         span = sym (ap (λ (x : RowHead). x.span) r.2);
       })
 
--- ---- a row more
+-- a row more
 
 -- an entry is the fact of its row
 entry_fact : (store : Store) (seen : SeenRow) (entry : Entry) → IsRowOf store seen entry → fact_for seen.relation entry ≡ fact_in store seen
@@ -113,7 +113,7 @@ adds_none store number tables none fact = by (row_at store.rows number) none
     by None e = (inl, λ d. ⊎_elim (λ (c : Contains (table_facts tables) fact). c) (λ (x : None ≡ Some fact). absurd cc) d)
     by (Some seen) e = absurd cc
 
--- ---- the rows so far
+-- the rows so far
 
 -- the facts of the first rows
 abbrev pub facts_before : Store → ℕ → List TargetFact
@@ -207,7 +207,7 @@ head_below store number head n e below = by (row_at store.rows number) e below
         let same : head_of seen ≡ head = cc in
         subst (λ (x : RowHead). x.relation < n) same h
 
--- ---- coalesced tables
+-- coalesced tables
 
 module _ (lists tables : List TermTable) where
   -- a row that one list of tables covers in a relation, another covers there too

@@ -53,7 +53,7 @@ pub record IsMade (rules : RuleSet) (size : ℕ) (fact : FactOf ConstId) : Type 
   pub wide : IsSomeAnd (slice_get rules.targets fact.relation) (λ r. length fact.terms ≡ length r.columns)
   pub terms : All (IsTermMade rules size) fact.terms
 
--- ---- the constants of rules
+-- the constants of rules
 
 in_arguments : (args : List Arg) (c : ConstId) → Contains args (Const c) → Contains (constants_in args) c
 in_arguments [] c h = absurd (Contains-nil (Const c) h)
@@ -86,7 +86,7 @@ head_constant rules tgd there atom inside c is =
       Contains-append_right (constants_among tgd.body) (constants_among tgd.head) c (in_atoms tgd.head atom c inside is),
     )
 
--- ---- the relations of rows
+-- the relations of rows
 
 pub rows_below : (rules : RuleSet) → IsValid rules → (firings : List Firing) (rows : List (StampedOf (FactOf ConstId)))
     → IsPermutation (firing_rows (λ c. c) rules (entries_of firings)) rows → All (λ fact. fact.row.relation < length rules.targets) rows
@@ -109,7 +109,7 @@ rows_below rules valid firings rows made =
         let s = some_and (λ (r : Relation). length from.0.args ≡ length r.columns) (slice_get rules.targets from.0.relation) fits in
         subst (λ (x : FactOf ConstId). x.relation < length rules.targets) from.2 (slice_get_within rules.targets from.0.relation s.0 s.1)
 
--- ---- firing facts
+-- firing facts
 
 module _ (rules : RuleSet) (valid : IsValid rules) (size : ℕ) (bounded : (c : ConstId) → AnyHasConstant rules c → c.0 < size)
     (source : List (FactOf ConstId)) (low : All (HasConstantsBelow size) source) where

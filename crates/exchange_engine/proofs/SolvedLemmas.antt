@@ -40,7 +40,7 @@ use Rattle.exchange_engine.specs.Grouped.{table_facts, HoldSnapshotsOf}
 use Rattle.exchange_engine.proofs.TableFactLemmas.{Entry, TargetFact, fact_for, in_facts}
 use Rattle.exchange_engine.proofs.MadeLemmas.{IsConstantBelow, HasConstantsBelow, IsTermMade, IsMade, firing_fact_made}
 
--- ---- firing facts of instances that hold the same
+-- firing facts of instances that hold the same
 
 fact_moves : (rules : RuleSet) (a b : List (FactOf ConstId)) → ((fact : FactOf ConstId) → Contains a fact → Contains b fact)
     → (fact : FactOf ConstId) → IsFiringFact (λ c. c) rules a fact → IsFiringFact (λ c. c) rules b fact
@@ -55,7 +55,7 @@ fact_moves rules a b moves fact k = (k.0, by (slice_get rules.tgds k.0) k.1)
     by None h = h
     by (Some tgd) h = (h.0, (h.1.0, matches (λ v. constant (h.1.0 v)) tgd.body h.1.1, h.1.2), h.2)
 
--- ---- a fact under the map that leaves each unknown
+-- a fact under the map that leaves each unknown
 
 same_term : (term : TermOf ConstId) → term_image (λ u. unknown u) term ≡ term
 same_term (constant c) = refl
@@ -68,7 +68,7 @@ same_terms (term ∷ terms) = λ i. same_term term i ∷ same_terms terms i
 same_fact : (fact : FactOf ConstId) → fact_image (λ u. unknown u) fact ≡ fact
 same_fact fact = λ i. record { relation = fact.relation; terms = same_terms fact.terms i }
 
--- ---- the snapshots of a table
+-- the snapshots of a table
 
 module _ (table : List Fact) (rows_are : facts_of (rows_of table) ≡ map with_terms table) (size : ℕ)
     (low : All (λ fact. All (λ c. c.0 < size) fact.row) table) (t : ℤ) where
@@ -91,7 +91,7 @@ module _ (table : List Fact) (rows_are : facts_of (rows_of table) ≡ map with_t
   ground : IsGround (snapshot_of table t)
   ground k d l j e m = let term = constants_low k d l j e m in (term.0, term.1)
 
--- ---- the tables
+-- the tables
 
 -- what comes of a mapping and a source: the source in pieces, the rows of its firings, and the tables of these rows
 pub record IsChased (loaded : LoadedOf) (pieces : List Fact) (rows : List TargetFact) (tables : List TermTable) : Type 0 where

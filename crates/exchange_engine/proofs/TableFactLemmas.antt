@@ -28,7 +28,7 @@ TargetFact = StampedOf (FactOf ConstId)
 abbrev pub fact_for : ℕ → Entry → TargetFact
 fact_for relation e = record { row = record { relation = relation; terms = map term_value e.row }; span = e.span }
 
--- ---- the facts of one table
+-- the facts of one table
 
 abbrev with_values : Entry → StampedOf (List (TermOf ConstId))
 with_values e = record { row = map term_value e.row; span = e.span }
@@ -50,7 +50,7 @@ from_front relation table fact c =
     let entry = Contains-from_map with_values table values.0 values.1 in
     (entry.0, entry.1, ap (of_relation relation) entry.2 ∙ values.2)
 
--- ---- the facts of all tables
+-- the facts of all tables
 
 in_tables : (n : ℕ) (tables : List TermTable) (k : ℕ) (table : TermTable) (e : Entry) → slice_get tables k ≡ Some table → Contains table e
     → Contains (facts_from n (map table_value tables)) (fact_for (n + k) e)
@@ -101,7 +101,7 @@ no_facts tables empty fact c =
     let none = All-contains (λ (table : TermTable). table ≡ []) tables h.1 empty (contains_from_at tables h.0 h.1 h.3) in
     Contains-nil h.2 (subst (λ (l : TermTable). Contains l h.2) none h.4)
 
--- ---- one entry more
+-- one entry more
 
 module _ (tables : List TermTable) (k : ℕ) (table : TermTable) (at : slice_get tables k ≡ Some table) (e : Entry) where
   abbrev longer : TermTable

@@ -36,7 +36,7 @@ use Rattle.failure_trace.specs.Firings.{FiresOn, GivesConstants}
 use Rattle.tgd_chase.specs.Candidates.{IsConstant, IsMadeFrom, IsCandidateOf, IsFoundAt, AreCandidatesOf, AddsCandidates, IsCandidate, AreCandidates}
 use Rattle.tgd_chase.specs.declared.candidates.Candidate.{Candidate}
 
--- ---- the values of some variables
+-- the values of some variables
 
 -- where each variable that has a value has it by the function too, the function gives the values that are read
 pub values_given : {C : Type 0} (f : ℕ → C) (xs : List C) → ((v : ℕ) (c : C) → slice_get xs v ≡ Some c → f v ≡ c) → (vs : List ℕ)
@@ -76,7 +76,7 @@ values_more xs vs i v ys c d within is there value e =
     ∙ (λ k. e k ++ read k ∷ [])
     ∙ sym (map-append (λ c. Some c) ys (c ∷ []))
 
--- ---- the cells of a match in a table
+-- the cells of a match in a table
 
 -- a row of a table is that of a fact
 row_of_fact : (table : List Fact) (n : ℕ) (row : SeenRow) → row_at (rows_of table) n ≡ Some row → (fact : Fact) × (row_of fact ≡ row)
@@ -120,7 +120,7 @@ frontier_within tgd read variables n same is size k d l =
     let there = subst (λ vs. Contains vs (get_or read k d)) same (Contains-get_or read k d l) in
     omega (arith, size, ((is.same (get_or read k d)).0 there).0)
 
--- ---- one candidate
+-- one candidate
 
 -- a candidate of the tgd for each of the matches
 pub record AreMadeFrom (table : List Fact) (place : ℕ) (tgd : Tgd) (found : List Match) (list : List Candidate) : Type 0 where
@@ -199,7 +199,7 @@ module _ (table : List Fact) (place : ℕ) (tgd : Tgd) (occurring : (v : ℕ) �
         (c.1.0, c.0, c.1.1, c.1.2, (c.2.rule, same, has));
   }
 
--- ---- those of all tgds
+-- those of all tgds
 
 -- what a tgd at a place of valid rules is
 pub read_tgd : (rules : RuleSet) → IsValid rules → (items : List Tgd) (i : ℕ) (tgd : Tgd) → items ≡ rules.tgds → i < length items

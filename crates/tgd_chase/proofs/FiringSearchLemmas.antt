@@ -22,7 +22,7 @@ use Rattle.rule_core.proofs.FiringLemmas.{occurs_from, occurs_to, frontier_is}
 use Rattle.tgd_chase.proofs.ImageLemmas.{images_agree}
 use Rattle.tgd_chase.proofs.DecisionLemmas.{IsDecided, same_decided, both_decided, contains_decided, all_decided, function_decided}
 
--- ---- the constants of an instance
+-- the constants of an instance
 
 -- the constants among terms
 abbrev constants_of : {C : Type 0} → List (TermOf C) → List C
@@ -54,7 +54,7 @@ in_constants {C} (f ∷ facts) fact c there h = elim (Contains-cons_cases f fact
   | inr d ↦ Contains-append_right (constants_of f.terms) (constants_in facts) c (in_constants facts fact c d h)
 ]
 
--- ---- matches and their variables
+-- matches and their variables
 
 -- functions that agree at each member give the list one image
 pub map_agree : {X Y : Type 0} (f g : X → Y) (xs : List X) → ((x : X) → Contains xs x → f x ≡ g x) → map f xs ≡ map g xs

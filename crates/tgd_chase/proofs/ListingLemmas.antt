@@ -137,7 +137,7 @@ module _ (rules : RuleSet) (table : List Fact) where
       supported = All-weaker (IsMadeUp all) (IsSupported rules (stamped_facts table)) is_supported firings merged.made;
     }
 
--- ---- the order of candidates
+-- the order of candidates
 
 -- what is no less by one comparison more is no less without it
 no_less : (u v : Ordering) → is_lt (ordering_then u v) ≡ false → is_lt u ≡ false

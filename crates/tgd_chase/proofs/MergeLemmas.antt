@@ -29,7 +29,7 @@ use Rattle.failure_trace.specs.Firings.{firing_cmp, AreSeparate, IsEarlier}
 use Rattle.tgd_chase.specs.Merging.{candidate_cmp, IsAlike, firing_of, IsBehind, GoesOn, IsApart, Begins, Takes, IsEndFrom, IsPart, IsMadeUp, AreMerged}
 use Rattle.tgd_chase.specs.declared.candidates.Candidate.{Candidate}
 
--- ---- firings and candidates as entries
+-- firings and candidates as entries
 
 -- a rule, and the values of its frontier
 pub record Key : Type 0 where
@@ -104,7 +104,7 @@ entries_sorted (first ∷ rest) sorted k d low h =
     ∙ ap is_lt (then_assoc (nat_cmp a.rule b.rule) (slice_cmp id_cmp a.frontier b.frontier) (span_cmp a.support.span b.support.span))
     ∙ sorted k first low (omega (arith, size))
 
--- ---- lists
+-- lists
 
 any_left : {X : Type 0} (P : X → Type 0) (xs ys : List X) → Any P xs → Any P (xs ++ ys)
 any_left P xs ys h = let c = Contains-append_left xs ys h.1 (h.0, h.2, h.3) in (c.0, h.1, c.1, c.2, h.4)
@@ -139,7 +139,7 @@ all_front P xs y h k d l =
 all_last : {X : Type 0} (P : X → Type 0) (xs : List X) (y : X) → All P (xs ++ y ∷ []) → P y
 all_last P xs y h = All-contains P (xs ++ y ∷ []) y h (Contains-push xs y)
 
--- ---- what a firing is made of
+-- what a firing is made of
 
 module _ (all : List Candidate) where
   -- an end from a candidate is one for a firing with the same key
@@ -294,7 +294,7 @@ module _ (all : List Candidate) where
       | inr h ↦ made_without h.0 h.1
     ]
 
--- ---- one step on a list of firings
+-- one step on a list of firings
 
 -- the last firing is extended
 pub extends_last : (items : List Firing) (i : ℕ) (read was new : Firing) (next : Candidate) → i + 1 ≡ length items
@@ -327,7 +327,7 @@ begins_behind items new i read next size is_read apart begins = inr (away, begin
         let one : read ≡ last = is_read ∙ (λ k. get_or (e k) (place k) read) ∙ get_or-append_seam front last [] read in
         subst (λ (f : Firing). IsAlike f next → AreApart f.span next.support.span × ¬ (Touch f.span next.support.span)) one apart
 
--- ---- the sweep
+-- the sweep
 
 -- nothing is done yet
 swept_none : (entries : List (StampedOf Key)) → IsSorted (stamped_cmp key_cmp) entries → All (λ e. HasInstant e.span) entries
@@ -464,7 +464,7 @@ merged_more next firings new rest all has h (inl e) =
 merged_more next firings new rest all has h (inr b) =
     subst (λ l. AreMergedSoFar l rest all) (sym b.1) (begun_behind next rest all has firings h b.0)
 
--- ---- the end
+-- the end
 
 pub merged_all : (firings : List Firing) (all : List Candidate) → AreMergedSoFar firings [] all → AreMerged all firings
 merged_all firings all h =

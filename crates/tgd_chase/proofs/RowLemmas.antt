@@ -31,7 +31,7 @@ use Rattle.tgd_chase.specs.Fired.{HoldFiringFacts}
 use Rattle.tgd_chase.specs.Adding.{name_of}
 use Rattle.tgd_chase.proofs.AddingLemmas.{Row, IsNew}
 
--- ---- members of joined lists
+-- members of joined lists
 
 in_flat_map : {X Y : Type 0} (f : X → List Y) (xs : List X) (x : X) (y : Y) → Contains xs x → Contains (f x) y → Contains (flat_map f xs) y
 in_flat_map f [] x y c d = absurd (Contains-nil x c)
@@ -48,7 +48,7 @@ from_flat_map f (z ∷ zs) y c = elim (Contains-append_cases (f z) (flat_map f z
   | inr d ↦ let h = from_flat_map f zs y d in (h.0, Contains-cons z h.0 zs h.1, h.2)
 ]
 
--- ---- the rows of one entry
+-- the rows of one entry
 
 module _ (rules : RuleSet) (entry : FiringOf ConstId) where
   -- the fact is one that the tgd at the entry's place makes of its values
@@ -102,7 +102,7 @@ fired_unknown place tgd values fact made rule frontier var c =
     by_arg (Const d) e = absurd cc
     by_arg (Var v) e = by_value (frontier_value (frontier_of tgd) values v) _ e
 
--- ---- the rows of all firings
+-- the rows of all firings
 
 module _ (rules : RuleSet) where
   abbrev rows_for : List Firing → List Row
@@ -169,7 +169,7 @@ module _ (rules : RuleSet) where
               let same = fired_unknown h.0.rule tgd h.0.frontier row.row k f.rule f.frontier var c in
               (earlier h.0 h.1 same.0 same.1).0 (subst (λ (s : Ends). Meet s f.span) h.3 meet)
 
--- ---- the firings of a table
+-- the firings of a table
 
 module _ (rules : RuleSet) (table : List Fact) (firings : List Firing) (are : AreFirings rules (stamped_facts table) firings) where
   module _ (rows : List Row) (made : IsPermutation (rows_for rules firings) rows) (t : ℤ) (fact : FactOf ConstId) where

@@ -30,7 +30,7 @@ use Rattle.tgd_chase.specs.Fired.{IsGround}
 use Rattle.tgd_chase.proofs.DecisionLemmas.{IsDecided}
 use Rattle.tgd_chase.proofs.FiringSearchLemmas.{map_agree, matches_agree, value_in, fires_decided}
 
--- ---- the values of the frontier
+-- the values of the frontier
 
 module _ (xs : List ℕ) (v : ℕ) where
   -- the first place of the variable, or the length where there is none
@@ -72,7 +72,7 @@ IfSome-from_All P [] h k = tt
 IfSome-from_All P (x ∷ xs) h zero = All-head P x xs h
 IfSome-from_All P (x ∷ xs) h (suc k) = IfSome-from_All P xs (All-tail P x xs h) k
 
--- ---- terms that are constants
+-- terms that are constants
 
 -- the constant, or the given one for an unknown
 constant_or : {C : Type 0} → C → TermOf C → C
