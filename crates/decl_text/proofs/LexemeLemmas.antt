@@ -31,7 +31,8 @@ name_next : (names : List (List ℕ)) (name : List ℕ) → before_next names ++
 name_next [] name = refl
 name_next (n ∷ ns) name = ap (λ l. named n ∷ l) (later_next ns name)
 
-comma_next : (names : List (List ℕ)) (name : List ℕ) → before_next (names ++ name ∷ []) ≡ with_commas (names ++ name ∷ []) ++ sign Comma ∷ []
+comma_next : (names : List (List ℕ)) (name : List ℕ)
+    → before_next (names ++ name ∷ []) ≡ with_commas (names ++ name ∷ []) ++ sign Comma ∷ []
 comma_next [] name = refl
 comma_next (n ∷ ns) name = refl
 
@@ -54,7 +55,8 @@ HasSaid (declared place relation) said = (end : Lexeme) × EndsLine end × (said
 named_is : (lexeme : Lexeme) (text : List ℕ) → lexeme.kind ≡ Name → lexeme.text ≡ text → lexeme ≡ named text
 named_is lexeme text kind same = λ i. record { kind = kind i; text = same i }
 
-parenthesis_is : (lexeme : Lexeme) (spelled : List ℕ) → lexeme.kind ≡ LeftParen → IsTextOf lexeme.kind spelled lexeme.text → lexeme ≡ sign LeftParen
+parenthesis_is : (lexeme : Lexeme) (spelled : List ℕ) → lexeme.kind ≡ LeftParen → IsTextOf lexeme.kind spelled lexeme.text
+    → lexeme ≡ sign LeftParen
 parenthesis_is lexeme spelled kind text =
     let none : lexeme.text ≡ [] = subst (λ k. IsTextOf k spelled lexeme.text) kind text in λ i. record { kind = kind i; text = none i }
 
@@ -62,7 +64,8 @@ comma_is : (lexeme : Lexeme) (spelled : List ℕ) → lexeme.kind ≡ Comma → 
 comma_is lexeme spelled kind text =
     let none : lexeme.text ≡ [] = subst (λ k. IsTextOf k spelled lexeme.text) kind text in λ i. record { kind = kind i; text = none i }
 
-close_is : (lexeme : Lexeme) (spelled : List ℕ) → lexeme.kind ≡ RightParen → IsTextOf lexeme.kind spelled lexeme.text → lexeme ≡ sign RightParen
+close_is : (lexeme : Lexeme) (spelled : List ℕ) → lexeme.kind ≡ RightParen → IsTextOf lexeme.kind spelled lexeme.text
+    → lexeme ≡ sign RightParen
 close_is lexeme spelled kind text =
     let none : lexeme.text ≡ [] = subst (λ k. IsTextOf k spelled lexeme.text) kind text in λ i. record { kind = kind i; text = none i }
 
@@ -102,8 +105,8 @@ says_next rules (wants_column place relation) next lexeme spelled said text h be
     )
 says_next rules (wants_comma place relation) next lexeme spelled said text (inl h) before =
     subst (λ p. HasSaid p (said ++ lexeme ∷ [])) (Goes-next (wants_column place relation) next h.1)
-    (one_more said (opened place relation.name (with_commas relation.columns)) lexeme (sign Comma) before.0 (comma_is lexeme spelled h.0 text)
-    ∙ ap (opened place relation.name) (sym before.1))
+    (one_more said (opened place relation.name (with_commas relation.columns)) lexeme (sign Comma) before.0
+    (comma_is lexeme spelled h.0 text) ∙ ap (opened place relation.name) (sym before.1))
 says_next rules (wants_comma place relation) next lexeme spelled said text (inr h) before =
     let is = Test-next h.1 in
     subst (λ p. HasSaid p (said ++ lexeme ∷ [])) (Goes-next (wants_line_end place relation) next is.1)
@@ -116,15 +119,17 @@ says_next rules (wants_line_end place relation) next lexeme spelled said text h 
 says_next rules (declared place relation) next lexeme spelled said text h before = absurd h
 
 -- the tokens that pass say something, and with it the line has said what is due where it stands then
-pass_says : (rules : RuleSet) (bytes : List ℕ) (from : ℕ) (position : DeclarationPosition) (tokens : List Token) (to : ℕ) (last : DeclarationPosition)
-    (said : List Lexeme) → Pass (declaration_tests rules) bytes from position tokens to last → HasSaid position said
+pass_says : (rules : RuleSet) (bytes : List ℕ) (from : ℕ) (position : DeclarationPosition) (tokens : List Token)
+    (to : ℕ) (last : DeclarationPosition) (said : List Lexeme)
+    → Pass (declaration_tests rules) bytes from position tokens to last → HasSaid position said
     → (lexemes : List Lexeme) × AllZip (Says bytes) tokens lexemes × HasSaid last (said ++ lexemes)
 pass_says rules bytes from position [] to last said pass before =
     ([], tt, subst (λ l. HasSaid last l) (sym (append-nil said)) (subst (λ p. HasSaid p said) (sym pass.1) before))
 pass_says rules bytes from position (token ∷ tokens) to last said (stands, (next, comes, more)) before =
-    let text : IsTextOf comes.lexeme.kind (take (token.end - token.start) (drop token.start bytes)) comes.lexeme.text =
-    subst (λ k. IsTextOf k (take (token.end - token.start) (drop token.start bytes)) comes.lexeme.text) (sym comes.says.kind) comes.says.text in
-    let after = says_next rules position next comes.lexeme (take (token.end - token.start) (drop token.start bytes)) said text comes.tested before in
+    let spelled = take (token.end - token.start) (drop token.start bytes) in
+    let text : IsTextOf comes.lexeme.kind spelled comes.lexeme.text =
+    subst (λ k. IsTextOf k spelled comes.lexeme.text) (sym comes.says.kind) comes.says.text in
+    let after = says_next rules position next comes.lexeme spelled said text comes.tested before in
     let later = pass_says rules bytes token.end next tokens to last (said ++ comes.lexeme ∷ []) more after in (
       comes.lexeme ∷ later.0,
       (comes.says, later.1),
@@ -140,8 +145,8 @@ declaration_says bytes rules from place relation tokens to pass =
     (said.2.0, said.2.1, subst (λ l. AllZip (Says bytes) tokens l) said.2.2 said.1)
 
 -- and so do those of its canonical line
-pub canonical_says : (before rest : List ℕ) (rules : RuleSet) (place : Place) (relation : Relation) → IsValid (with_relation rules place relation)
-    → (tokens : List Token)
+pub canonical_says : (before rest : List ℕ) (rules : RuleSet) (place : Place) (relation : Relation)
+    → IsValid (with_relation rules place relation) → (tokens : List Token)
     × Pass (declaration_tests rules) (before ++ (declaration_text place relation ++ rest)) (length before) begins tokens
     (length before + length (declaration_text place relation)) (declared place relation)
     × SayLine (before ++ (declaration_text place relation ++ rest)) tokens (declaration_lexemes place relation)

@@ -112,7 +112,7 @@ pub fn declarations_are_said_in_one_way()
     ensures canonical { (before rest : List ℕ) (rules : RuleSet) (place : PlaceValue) (relation : RelationValue)
         → IsValid (with_relation rules place relation)
         → (tokens : List TokenValue)
-        × Pass (declaration_tests rules) (before ++ (declaration_text place relation ++ rest)) (length before) begins tokens
-        (length before + length (declaration_text place relation)) (declared place relation)
+        × Pass (declaration_tests rules) (before ++ (declaration_text place relation ++ rest)) (length before)
+        begins tokens (length before + length (declaration_text place relation)) (declared place relation)
         × SayLine (before ++ (declaration_text place relation ++ rest)) tokens (declaration_lexemes place relation) }
 {}

@@ -1,5 +1,5 @@
 -- Each text that isn't too long is a mapping, or has a first fault.
-use Rattle.std.proofs.Common.{◌≡◌, ◌⊎◌, inl, inr, ℕ, ◌<◌, List, [], ◌∷◌, length, refl, sym, subst, rules}
+use Rattle.std.proofs.Common.{◌≡◌, ◌⊎◌, inl, inr, ℕ, ◌<◌, List, [], ◌∷◌, length, refl, sym, subst}
 use Rattle.rule_core.specs.Mapping.{RuleSet}
 use Rattle.decl_text.specs.declared.token.Token.{Token}
 use Rattle.decl_text.specs.declared.fault.MappingFault.{MappingFault}
@@ -67,7 +67,8 @@ module _ (pool : List (List ℕ)) where
       wants_within (rule_tests set pool) (mapping_tests pool) (of_rule set) position (in_rule set position)
       (λ lexeme outcome tested. (outcome, tested, refl)) (rule_wants set pool position here)
 
-  some_outcome : (position : MappingPosition) → IsOpen position → (token : Lexeme) → IsKnown pool token → Some (mapping_tests pool position token)
+  some_outcome : (position : MappingPosition) → IsOpen position → (token : Lexeme) → IsKnown pool token
+      → Some (mapping_tests pool position token)
   some_outcome (at_line set) here token known =
       When-some (ends_line token) (λ end. Goes-some (at_line set))
       (When-some (begins_rule token)
@@ -82,7 +83,8 @@ module _ (pool : List (List ℕ)) where
       → IsFinal (mapping_tests pool) position ⊎ Wants (mapping_tests pool) (IsKnown pool) position
   wanted position here = inr (open_wants position here, λ token known. some_outcome position here token known)
 
-  declared_final : (set : RuleSet) (position : DeclarationPosition) → declaration_lemmas.IsOpen position ⊎ IsFinal (mapping_tests pool) (in_declaration set position)
+  declared_final : (set : RuleSet) (position : DeclarationPosition)
+      → declaration_lemmas.IsOpen position ⊎ IsFinal (mapping_tests pool) (in_declaration set position)
   declared_final set (declared place relation) = inr (λ token outcome within. within.1)
   declared_final set other = inl tt
 
@@ -122,8 +124,8 @@ module _ (pool : List (List ℕ)) where
   next_open (in_declaration set position) next token h = within_open (of_declaration set) _ next (declaration_open set) h
   next_open (in_rule set position) next token h = within_open (of_rule set) _ next (rule_open set) h
 
-  last_open : (bytes : List ℕ) (from : ℕ) (position : MappingPosition) (tokens : List Token) (to : ℕ) (last : MappingPosition) → IsOpen position
-      → Pass (mapping_tests pool) bytes from position tokens to last → IsOpen last
+  last_open : (bytes : List ℕ) (from : ℕ) (position : MappingPosition) (tokens : List Token) (to : ℕ) (last : MappingPosition)
+      → IsOpen position → Pass (mapping_tests pool) bytes from position tokens to last → IsOpen last
   last_open bytes from position [] to last here pass = subst IsOpen (sym pass.1) here
   last_open bytes from position (token ∷ tokens) to last here (stands, (next, comes, more)) =
       last_open bytes token.end next tokens to last (next_open position next comes.lexeme comes.tested) more

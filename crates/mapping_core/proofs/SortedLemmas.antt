@@ -115,8 +115,8 @@ module _ (bytes : List ℕ) where
     few : length more ≤ length texts + 1
     has : (text : List ℕ) → Contains more text ↔ (Contains texts text ⊎ SaysQuoted bytes token text)
 
-  add_token : (from : ℕ) (token : Token) (lexeme : Lexeme) (texts : List (List ℕ)) → StandsNext bytes from token lexeme → AllPairs IsBefore texts
-      → (more : List (List ℕ)) × IsGathered token texts more
+  add_token : (from : ℕ) (token : Token) (lexeme : Lexeme) (texts : List (List ℕ))
+      → StandsNext bytes from token lexeme → AllPairs IsBefore texts → (more : List (List ℕ)) × IsGathered token texts more
   add_token from token lexeme texts stands order = elim (same_kind token.kind Quoted) [
     | inl quoted ↦
         let more = add_text lexeme.text texts order in
