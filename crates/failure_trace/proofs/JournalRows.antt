@@ -22,8 +22,8 @@ Row = RowOf (List ℕ)
 abbrev Term : Type 0
 Term = TermOf (List ℕ)
 
-abbrev row : ℕ → List Term → ℕ → ℕ → Row
-row relation terms lo hi = record { row = record { relation = relation; terms = terms }; span = ends (Some (pos lo)) (Some (pos hi)) }
+abbrev row_over : ℕ → List Term → ℕ → ℕ → Row
+row_over relation terms lo hi = record { row = record { relation = relation; terms = terms }; span = ends (Some (pos lo)) (Some (pos hi)) }
 
 abbrev atom : ℕ → List ℕ → Atom
 atom relation variables = record { relation = relation; args = map Var variables }
@@ -70,13 +70,13 @@ module _ (name : ConstId → List ℕ) where
   second = egd names (atom 0 (0 ∷ 1 ∷ []) ∷ atom 2 (1 ∷ 2 ∷ []) ∷ []) 2 0
 
   abbrev p : Term → Row
-  p y = the first row (a ∷ y ∷ []) 1 6
+  p y = row_over 0 (a ∷ y ∷ []) 1 6
 
   abbrev k : Row
-  k = the second row (a ∷ b ∷ []) 1 6
+  k = row_over 1 (a ∷ b ∷ []) 1 6
 
   abbrev q : Term → ℕ → ℕ → Row
-  q w lo hi = the third row (b ∷ w ∷ []) lo hi
+  q w lo hi = row_over 2 (b ∷ w ∷ []) lo hi
 
   abbrev w : Term
   w = null 2 0
@@ -214,13 +214,13 @@ module _ (name : ConstId → List ℕ) where
   v = null 0 1
 
   abbrev pz : ℕ → ℕ → Row
-  pz lo hi = the first row (a ∷ z ∷ []) lo hi
+  pz lo hi = row_over 0 (a ∷ z ∷ []) lo hi
 
   abbrev qz : Term → ℕ → ℕ → Row
-  qz x lo hi = the second row (z ∷ x ∷ []) lo hi
+  qz x lo hi = row_over 1 (z ∷ x ∷ []) lo hi
 
   abbrev kb : Row
-  kb = the third row (a ∷ b ∷ []) 5 9
+  kb = row_over 2 (a ∷ b ∷ []) 5 9
 
   abbrev linked : List Row
   linked = pz 1 9 ∷ qz v 1 9 ∷ []
