@@ -40,7 +40,7 @@ OneRefusal = (held : Held) (command : Command) (f g : List Fetch) (a b : Ending)
 
 -- what a command makes is what it may find, and the line says it
 pub finds : (command : Command) (inputs : Inputs) (product : Product) → Makes command inputs product → IsFindingOf command product.finding
-finds (Exchange origin target) inputs product makes = makes.found
+finds (Exchange origin target) inputs product makes = (makes.pieces, makes.firings, makes.found)
 
 pub says_it : (command : Command) (inputs : Inputs) (product : Product) → Makes command inputs product
     → product.line ≡ printed_of product.finding
@@ -240,7 +240,7 @@ refused_or_failed status (inr (inr a)) b = omega arith
 
 -- what was found has a status of a run that came to its end
 found_is_done : (finding : Finding) → IsDone (status_found finding)
-found_is_done Solved = inl refl
+found_is_done (Solved pieces firings) = inl refl
 
 -- a run that is refused prints nothing
 quiet : (words : List (List ℕ)) (before after : Device (List ℕ)) (status : ℕ) → IsRefused status → after ≡ before

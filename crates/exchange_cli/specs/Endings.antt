@@ -1,5 +1,6 @@
 -- The status and the lines of each ending.
 use Rattle.std.specs.Prelude.{◌≡◌, ◌⊎◌, ℕ, List, [], ◌∷◌, ◌++◌, codes}
+use Rattle.std.specs.Fmt.{decimal}
 use Rattle.exchange_cli.specs.declared.ending.Finding.{Finding}
 use Rattle.exchange_cli.specs.declared.ending.Finding.TheVariants.{Solved}
 use Rattle.exchange_cli.specs.declared.ending.Ending.{Ending}
@@ -8,7 +9,7 @@ use Rattle.exchange_cli.specs.FaultTexts.{mapping_fault, table_fault}
 
 -- the answer of the program where all was done, by what was found
 abbrev pub status_found : Finding → ℕ
-status_found Solved = 0
+status_found (Solved pieces firings) = 0
 
 -- the answer of the program
 abbrev pub status_of : Ending → ℕ
@@ -42,7 +43,8 @@ solved = line (codes "solved")
 
 -- what is printed on the standard output, by what was found
 abbrev pub printed_of : Finding → List ℕ
-printed_of Solved = solved
+printed_of (Solved pieces firings) =
+    line (codes "solved: " ++ decimal pieces ++ codes " source pieces, " ++ decimal firings ++ codes " firings")
 
 -- what is said of an ending on the standard error
 abbrev pub line_of : Ending → List ℕ

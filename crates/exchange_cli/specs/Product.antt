@@ -4,17 +4,21 @@ use Rattle.std.specs.Prelude.{◌≡◌, ℕ, List}
 use Rattle.exchange_cli.specs.Words.{Command, Exchange}
 use Rattle.exchange_cli.specs.Inputs.{Inputs}
 use Rattle.exchange_cli.specs.Files.{SolvedFiles, AreSolvedFiles, in_order}
+use Rattle.exchange_cli.specs.Exchanged.{AreCountsFrom}
 use Rattle.exchange_cli.specs.Endings.{status_found, printed_of}
 use Rattle.exchange_cli.specs.declared.ending.Finding.{Finding}
 use Rattle.exchange_cli.specs.declared.ending.Finding.TheVariants.{Solved}
 use Rattle.exchange_cli.specs.declared.product.Product.{Product}
 
--- the product is a solved exchange: the files of a target of the inputs
+-- the product is a solved exchange: the files of a target of the inputs, and the numbers of pieces and of firings
 pub record IsSolved (inputs : Inputs) (prefix : List ℕ) (product : Product) : Type 0 where
   pub groups : SolvedFiles
   pub each : AreSolvedFiles inputs prefix groups
   pub files : product.files ≡ in_order groups
-  pub found : product.finding ≡ Solved
+  pub pieces : ℕ
+  pub firings : ℕ
+  pub counts : AreCountsFrom inputs pieces firings
+  pub found : product.finding ≡ Solved pieces firings
   pub line : product.line ≡ printed_of product.finding
 
 -- what a command promises of what it makes
@@ -23,7 +27,7 @@ Makes (Exchange origin target) inputs product = IsSolved inputs target product
 
 -- what a command may find
 abbrev pub IsFindingOf : Command → Finding → Type 0
-IsFindingOf (Exchange origin target) finding = finding ≡ Solved
+IsFindingOf (Exchange origin target) finding = (pieces : ℕ) × (firings : ℕ) × (finding ≡ Solved pieces firings)
 
 -- a status with which the command may end where all was done
 abbrev pub IsOwnStatus : Command → ℕ → Type 0

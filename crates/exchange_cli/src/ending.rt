@@ -10,8 +10,9 @@ use term_core::{Memory, Text};
 /// What a command found, where all was done.
 #[derive(Clone, Copy)]
 pub enum Finding {
-    /// The mapping has a solution for the source at every instant.
-    Solved,
+    /// The mapping has a solution for the source at every instant. The source came in so many pieces, and so many firings came
+    /// of them.
+    Solved { pieces: usize, firings: usize },
 }
 
 /// How a run ends. Each refusal and each fault names what it is about.
@@ -57,7 +58,10 @@ impl Finding {
         ensures { result ≡ status_found self }
     {
         match self {
-            Finding::Solved => 0,
+            Finding::Solved {
+                pieces: _,
+                firings: _,
+            } => 0,
         }
     }
 }

@@ -12,6 +12,7 @@ mod file_names;
 mod inputs;
 pub mod laws;
 mod making;
+mod printing;
 mod product;
 mod rendering;
 mod reporting;

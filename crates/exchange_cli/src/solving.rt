@@ -10,11 +10,10 @@ ghost use Rattle.exchange_cli.specs.Steps.{read_of};
 use crate::ending::Finding;
 use crate::inputs::Inputs;
 use crate::laws::stored_tables_are_a_target;
+use crate::printing::printed_line;
 use crate::product::Product;
 use crate::rendering::render;
-use crate::storing::SOLVED;
 use exchange_engine::{Loaded, Outcome, Solved, exchange, load};
-use shelf_core::Bytes;
 use std::alloc::Global;
 use std::marker::Brand;
 use std::sync::ledger::{Blank, Ledger};
@@ -30,10 +29,14 @@ pub fn solve(alloc: Global, target: &str, inputs: Inputs) -> Result<Product, Mem
     stored_tables_are_a_target();
     let loaded = load_inputs(alloc, inputs)?;
     let solved = exchanged::<Brand>(alloc, &loaded, Blank::new(1))?;
+    let finding = Finding::Solved {
+        pieces: solved.counts.pieces,
+        firings: solved.counts.firings,
+    };
     Ok(Product {
         files: render(alloc, &loaded, &solved, target)?,
-        line: Bytes::from_vec(SOLVED.to_vec(alloc)?),
-        finding: Finding::Solved,
+        line: printed_line(alloc, finding)?,
+        finding,
     })
 }
 

@@ -49,7 +49,7 @@ fn header_texts(alloc: Global, columns: &Items<Text>) -> Result<Items<Text>, Mem
     Ok(header)
 }
 
-/// What the verdict of a solved exchange holds, and what is printed of it.
+/// What the verdict of a solved exchange holds.
 pub const SOLVED: &[u8] = b"solved\n";
 
 /// The verdict of a solved exchange.

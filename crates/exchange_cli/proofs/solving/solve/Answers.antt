@@ -1,5 +1,5 @@
 -- What the exchange gives is, as it is stored, the target.
-use Rattle.std.proofs.Common.{◌≡◌, List, map, ap, refl, subst, ◌∙◌}
+use Rattle.std.proofs.Common.{◌≡◌, List, map, ap, refl, subst}
 use Rattle.rule_core.specs.declared.rules.Relation.{Relation}
 use Rattle.rule_core.specs.Mapping.{RuleSet}
 use Rattle.exchange_cli.specs.Rendering.{stored_table}
@@ -15,6 +15,7 @@ returns c =
     let target = c.args.target.now in
     let from = c.in_ok-loaded.ensures in
     let rendered = c.in_ok-render.ensures in
+    let counts = c.in_ok-solved.ensures.counts in
     let same : loaded.rules.targets ≡ inputs.mapping.rules.targets = ap (λ (r : RuleSet). r.targets) from.rules.2 in
     record {
       groups = rendered.groups;
@@ -29,6 +30,18 @@ returns c =
         verdict = rendered.verdict;
       };
       files = rendered.all;
+      pieces = solved.counts.pieces;
+      firings = solved.counts.firings;
+      counts = record {
+        loaded = loaded;
+        from = from;
+        normalised = counts.0;
+        pieced = counts.2;
+        fired = counts.1;
+        each = counts.3;
+        pieces_are = counts.4;
+        firings_are = counts.5;
+      };
       found = refl;
-      line = c.from_vec.ensures ∙ c.in_ok-to_vec.ensures.items_if_clones_equal (λ x y e. e);
+      line = c.in_ok-printed_line.ensures;
     }
