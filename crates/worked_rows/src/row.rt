@@ -9,6 +9,7 @@ use std::io::Print;
 
 /// The room of the shelf and of each sink, where a row says nothing else.
 const ENTRIES: usize = 100;
+
 const BYTES: usize = 100_000;
 
 /// Runs the rows of a text, which an empty line divides.
