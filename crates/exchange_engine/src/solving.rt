@@ -11,8 +11,8 @@ use normaliser::normalise;
 use std::alloc::Global;
 use std::sync::ledger::Ledger;
 use term_core::{Memory, Steps};
-use tgd_chase::{Fired, fire};
 use tgd_chase::laws::solutions_are_what_firing_facts_map_into;
+use tgd_chase::{Fired, fire};
 
 /// The target of a mapping without egds and queries: a table for each target relation, in their order, and the unknowns there.
 pub fn exchange<L: Ledger>(
