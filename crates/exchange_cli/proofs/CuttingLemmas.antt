@@ -50,9 +50,10 @@ passing_first p (x ∷ xs) zero within point =
 passing_first p (x ∷ xs) (suc n) within point =
     let here : p x ≡ true = point.0 zero x (omega arith) (omega arith) in
     let rest : take n xs ≡ filter p xs =
-    passing_first p xs n (omega (arith, within))
-    (λ k d low high. point.0 (suc k) d (omega arith) (omega (arith, high)),
-    λ k d low high. point.1 (suc k) d (omega (arith, low)) (omega (arith, high))) in
+    passing_first p xs n (omega (arith, within)) (
+      λ k d low high. point.0 (suc k) d (omega arith) (omega (arith, high)),
+      λ k d low high. point.1 (suc k) d (omega (arith, low)) (omega (arith, high)),
+    ) in
     ap (λ l. x ∷ l) rest ∙ sym (λ i. cond (here i) (x ∷ filter p xs) (filter p xs))
 
 -- where none of the first ones passes, the filter keeps what it keeps of the rest

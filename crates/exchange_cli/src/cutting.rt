@@ -29,7 +29,7 @@ pub fn cut(alloc: Global, out: &str, inputs: Inputs) -> Result<Product, Memory>
     let loaded = load_inputs(alloc, inputs)?;
     let pieces = normalised::<Brand>(alloc, &loaded, Blank::new(1))?;
     let finding = Finding::Normalised {
-        facts: loaded.table.facts().len(),
+        facts: fact_count(&loaded),
         pieces: pieces.facts().len(),
     };
     Ok(Product {
@@ -37,6 +37,13 @@ pub fn cut(alloc: Global, out: &str, inputs: Inputs) -> Result<Product, Memory>
         line: printed_line(alloc, finding)?,
         finding,
     })
+}
+
+// How many facts are loaded, each counted once.
+fn fact_count(loaded: &Loaded) -> usize
+    ensures { result ≡ length loaded.now.table }
+{
+    loaded.table.facts().len()
 }
 
 // The pieces of what is loaded. The steps are counted on a new ledger.

@@ -10,12 +10,12 @@ use Rattle.exchange_cli.proofs.CuttingLemmas.{loaded_wide, pieces_in_pool, piece
 use Rattle.exchange_cli.proofs.cutting.cut.Goals as goal
 
 pub piece_files-requires-clause-table : goal.piece_files-requires-clause-table
-piece_files-requires-clause-table c = rw (c.as_slice.ensures, c.facts-3.ensures.value) c.in_ok-pieces.ensures.order
+piece_files-requires-clause-table c = rw (c.as_slice.ensures, c.facts-2.ensures.value) c.in_ok-pieces.ensures.order
 
 pub piece_files-requires-clause-within : goal.piece_files-requires-clause-within
 piece_files-requires-clause-within c =
     let loaded = c.in_ok-loaded.loaded in
-    rw (c.as_slice.ensures, c.facts-3.ensures.value)
+    rw (c.as_slice.ensures, c.facts-2.ensures.value)
     (pieces_in_pool loaded.rules loaded.table c.in_ok-pieces.pieces c.in_ok-pieces.ensures (length loaded.pool)
     c.in_ok-loaded.ensures.each.facts)
 
@@ -27,7 +27,7 @@ piece_files-requires-clause-wide c =
     let wide : AreAsWide loaded.rules.sources loaded.table =
     subst (λ (relations : List Relation). AreAsWide relations loaded.table) (sym same)
     (loaded_wide c.args.inputs.mapping.rules.sources c.args.inputs.tables loaded.pool loaded.table c.requires.tables from.facts) in
-    rw (c.as_slice.ensures, c.facts-3.ensures.value)
+    rw (c.as_slice.ensures, c.facts-2.ensures.value)
     (pieces_as_wide loaded.rules loaded.table c.in_ok-pieces.pieces c.in_ok-pieces.ensures loaded.rules.sources wide)
 
 pub returns : goal.returns
@@ -36,10 +36,10 @@ returns c =
     let pieces : List Fact = c.in_ok-pieces.pieces in
     let from = c.in_ok-loaded.ensures in
     let same : loaded.rules.sources ≡ c.args.inputs.mapping.rules.sources = ap (λ (r : RuleSet). r.sources) from.rules.2 in
-    let listed = c.as_slice.ensures ∙ c.facts-3.ensures.value in
+    let listed = c.as_slice.ensures ∙ c.facts-2.ensures.value in
     record {
-      facts = c.len.result;
-      pieces = c.len-2.result;
+      facts = c.fact_count.result;
+      pieces = c.len.result;
       files = record {
         loaded = loaded;
         from = from;
@@ -50,8 +50,8 @@ returns c =
             (piece_tables loaded.pool pieces 0 relations)) same
             (subst (λ (l : List Fact). AreTableFiles c.args.out.now loaded.rules.sources c.in_ok-piece_files.field-0
             (piece_tables loaded.pool l 0 loaded.rules.sources)) listed c.in_ok-piece_files.ensures);
-        facts_are = c.len.ensures ∙ ap length c.facts.ensures.value;
-        pieces_are = c.len-2.ensures ∙ ap length c.facts-2.ensures.value;
+        facts_are = c.fact_count.ensures;
+        pieces_are = c.len.ensures ∙ ap length c.facts.ensures.value;
       };
       found = refl;
       line = c.in_ok-printed_line.ensures;
