@@ -114,15 +114,20 @@ module _ (one_mapping : OneMapping) (one_fault : OneMappingFault) (sound : Mappi
   one_table_stop prefix left (r ∷ rs) f g a b first second (x, xs, all, inl here) (y, ys, every, inl there) sure certain =
       one_stop held (RefusesTable prefix r) (one_fault_of_table one_table_fault prefix r) x y (table_name prefix r.name) left
       (first_told held f x xs all first) (first_told held g y ys every second) a b here.1 there.1 sure certain
-  one_table_stop prefix left (r ∷ rs) f g a b first second (x, xs, all, inl here) (y, ys, every, inr (size, facts, read, more)) sure certain =
-      absurd (sure (only_shelf_stops held (RefusesTable prefix r) x (table_name prefix r.name) left read.0 a (first_told held f x xs all first)
+  one_table_stop prefix left (r ∷ rs) f g a b first second (x, xs, all, inl here)
+      (y, ys, every, inr (size, facts, read, more)) sure certain =
+      absurd (sure (only_shelf_stops held (RefusesTable prefix r) x (table_name prefix r.name) left read.0 a
+      (first_told held f x xs all first)
       (given_is held y (table_name prefix r.name) left read.0 (first_told held g y ys every second) read.1)
       (table_is_not_refused clean prefix r read.0 facts read.3) here.1))
-  one_table_stop prefix left (r ∷ rs) f g a b first second (x, xs, all, inr (size, facts, read, more)) (y, ys, every, inl there) sure certain =
-      absurd (certain (only_shelf_stops held (RefusesTable prefix r) y (table_name prefix r.name) left read.0 b (first_told held g y ys every second)
+  one_table_stop prefix left (r ∷ rs) f g a b first second (x, xs, all, inr (size, facts, read, more))
+      (y, ys, every, inl there) sure certain =
+      absurd (certain (only_shelf_stops held (RefusesTable prefix r) y (table_name prefix r.name) left read.0 b
+      (first_told held g y ys every second)
       (given_is held x (table_name prefix r.name) left read.0 (first_told held f x xs all first) read.1)
       (table_is_not_refused clean prefix r read.0 facts read.3) there.1))
-  one_table_stop prefix left (r ∷ rs) f g a b first second (x, xs, all, inr (size, facts, read, more)) (y, ys, every, inr (other, others, same, rest)) sure certain =
+  one_table_stop prefix left (r ∷ rs) f g a b first second (x, xs, all, inr (size, facts, read, more))
+      (y, ys, every, inr (other, others, same, rest)) sure certain =
       let sizes = same_size held x y prefix r left size other facts others (first_told held f x xs all first)
       (first_told held g y ys every second) read same in
       one_table_stop prefix (left - size) rs xs ys a b (later_told held f x xs all first) (later_told held g y ys every second) more
@@ -144,7 +149,8 @@ module _ (one_mapping : OneMapping) (one_fault : OneMappingFault) (sound : Mappi
       (first_told held g y ys every second)
       (given_is held x (origin_of command).mapping mapping_limit read.0 (first_told held f x xs all first) read.1)
       (taken_is_not_refused one_mapping sound command read.0 mapping read.2 takes) there.1))
-  one_first_refusal command f g a b first second (x, xs, all, inr (mapping, read, takes, stops)) (y, ys, every, inr (other, same, taken, rest)) sure certain =
+  one_first_refusal command f g a b first second (x, xs, all, inr (mapping, read, takes, stops))
+      (y, ys, every, inr (other, same, taken, rest)) sure certain =
       let mappings = one_mapping_read held one_mapping y x (origin_of command) other mapping (first_told held g y ys every second)
       (first_told held f x xs all first) same read in
       one_table_stop (origin_of command).source tables_limit mapping.rules.sources xs ys a b (later_told held f x xs all first)

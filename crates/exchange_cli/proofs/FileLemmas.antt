@@ -14,10 +14,11 @@ use Rattle.shelf_core.specs.Held.{Held, Sets, OthersStay}
 use Rattle.rule_core.specs.declared.rules.Relation.{Relation}
 use Rattle.rule_core.specs.Validity.{IsValid}
 use Rattle.exchange_cli.specs.Run.{Device, with_files, StoresUpTo}
-use Rattle.exchange_cli.specs.Words.{Command, Exchange}
+use Rattle.exchange_cli.specs.Words.{Command, Exchange, Normalise}
 use Rattle.exchange_cli.specs.Names.{table_name, verdict_name}
 use Rattle.exchange_cli.specs.Inputs.{Inputs}
 use Rattle.exchange_cli.specs.Target.{TargetTable, AreTableFiles}
+use Rattle.exchange_cli.specs.Pieces.{piece_tables}
 use Rattle.exchange_cli.specs.Files.{HaveDistinctNames}
 use Rattle.exchange_cli.specs.Product.{Makes}
 use Rattle.exchange_cli.specs.declared.file.FileOut.{FileOut}
@@ -119,3 +120,8 @@ distinct_files (Exchange origin target) inputs product valid makes =
     rw makes.files (all_pairs_push (λ (a b : FileOut). a.name ≢ b.name) groups.tables groups.verdict
     (distinct_tables target inputs.mapping.rules.targets groups.tables tables.tables valid.relations.target_names tables.each)
     (none_is_verdict target inputs.mapping.rules.targets groups.tables tables.tables groups.verdict makes.each.verdict.name tables.each))
+distinct_files (Normalise origin out) inputs product valid makes =
+    let pieces = makes.files in
+    let sources = inputs.mapping.rules.sources in
+    distinct_tables out sources product.files (piece_tables pieces.loaded.pool pieces.normalised 0 sources) valid.relations.source_names
+    pieces.each

@@ -4,20 +4,21 @@ use Rattle.std.specs.declared.option.Option.TheVariants.{Some}
 use Rattle.std.specs.Option.{option_map}
 use Rattle.shelf_core.specs.Held.{Held}
 use Rattle.shelf_core.specs.Faults.{Rises}
+use Rattle.shelf_core.specs.Texts.{Appends}
 use Rattle.rule_core.specs.Solution.{HasSolution}
 use Rattle.rule_core.specs.Snapshot.{snapshot_at}
 use Rattle.rule_core.specs.Tables.{facts_of}
-use Rattle.exchange_cli.specs.Words.{Command, Exchange, Spells}
+use Rattle.exchange_cli.specs.Words.{Command, Exchange, Normalise, Spells}
 use Rattle.exchange_cli.specs.Endings.{IsDone, IsRefused, status_of, status_found, line_of, printed_of}
 use Rattle.exchange_cli.specs.Inputs.{Inputs, name_of, source_of}
 use Rattle.exchange_cli.specs.Product.{IsSolved, Makes, IsFindingOf, IsOwnStatus}
 use Rattle.exchange_cli.specs.Work.{Fetch, AreTold, Reads, FailsFirst}
 use Rattle.exchange_cli.specs.Run.{Device, Moment, Refuses, IsMadeFor, Finishes, Causes, Ends, Says, Untouched, with_files}
-use Rattle.exchange_cli.specs.Headline.{IsUnhindered, Completes, WordsClause, AnswerClause, RefusalClause, CompletesClause, OutputClause, StoreClause, StatusClause, TargetClause, IsLineOf}
+use Rattle.exchange_cli.specs.Headline.{IsUnhindered, Completes, WordsClause, AnswerClause, RefusalClause, CompletesClause, OutputClause, StoreClause, StatusClause, TargetClause, PiecesClause, IsLineOf}
 use Rattle.exchange_cli.specs.declared.file.FileOut.{FileOut}
 use Rattle.exchange_cli.specs.declared.product.Product.{Product}
 use Rattle.exchange_cli.specs.declared.ending.Finding.{Finding}
-use Rattle.exchange_cli.specs.declared.ending.Finding.TheVariants.{Solved}
+use Rattle.exchange_cli.specs.declared.ending.Finding.TheVariants.{Solved, Normalised}
 use Rattle.exchange_cli.specs.declared.ending.Ending.{Ending}
 use Rattle.exchange_cli.specs.declared.ending.Ending.TheVariants.{Done, Words, Missing, TooLong, Mapping, NotBuilt, Table, Read, Write, Output, Memory}
 use Rattle.exchange_cli.proofs.ReadLemmas.{IsReadFault, one_command}
@@ -41,14 +42,17 @@ OneRefusal = (held : Held) (command : Command) (f g : List Fetch) (a b : Ending)
 -- what a command makes is what it may find, and the line says it
 pub finds : (command : Command) (inputs : Inputs) (product : Product) → Makes command inputs product → IsFindingOf command product.finding
 finds (Exchange origin target) inputs product makes = (makes.pieces, makes.firings, makes.found)
+finds (Normalise origin out) inputs product makes = (makes.facts, makes.pieces, makes.found)
 
 pub says_it : (command : Command) (inputs : Inputs) (product : Product) → Makes command inputs product
     → product.line ≡ printed_of product.finding
 says_it (Exchange origin target) inputs product makes = makes.line
+says_it (Normalise origin out) inputs product makes = makes.line
 
 -- ---- unhindered
 
-module _ (one : OneReading) (only : OnlyShelfFails) (words : List (List ℕ)) (before after : Moment) (command : Command) (held : Held) (inputs : Inputs) (status : ℕ)
+module _ (one : OneReading) (only : OnlyShelfFails) (words : List (List ℕ)) (before after : Moment) (command : Command) (held : Held)
+    (inputs : Inputs) (status : ℕ)
     (free : IsUnhindered words before after status command held inputs) where
   -- nothing that the command reads is refused
   no_refusal : (ending : Ending) → ((name : List ℕ) → ending ≡ Read name → ⊥) → Refuses words before ending → ⊥
@@ -83,7 +87,8 @@ module _ (one : OneReading) (only : OnlyShelfFails) (words : List (List ℕ)) (b
       let delivered = done.2.2 in
       let same = one_command words made.0 command made.1 free.spelled in
       let told = subst (λ t. AreTold t made.2) free.told made.3 in
-      let read = one held command made.2 free.fetches made.4 inputs told free.each (subst (λ c. Reads c made.2 made.4) same made.5) free.reads in
+      let read = one held command made.2 free.fetches made.4 inputs told free.each
+      (subst (λ c. Reads c made.2 made.4) same made.5) free.reads in
       let makes : Makes command inputs product =
       subst (λ i. Makes command i product) read (subst (λ c. Makes c made.4 product) same made.6) in
       record {
@@ -101,7 +106,8 @@ has_solution : (inputs : Inputs) (prefix : List ℕ) (product : Product) → IsS
 has_solution inputs prefix product is = λ t.
     (snapshot_at (facts_of is.each.tables.tables) t, (is.each.tables.target.universal t).solution)
 
-pub completes_clause : OneReading → OnlyShelfFails → (words : List (List ℕ)) (before after : Moment) (err now : Device (List ℕ)) (status : ℕ)
+pub completes_clause : OneReading → OnlyShelfFails → (words : List (List ℕ)) (before after : Moment) (err now : Device (List ℕ))
+    (status : ℕ)
     → Ends words before after err now status → CompletesClause words before after status
 completes_clause one only words before after err now status ends = λ command held inputs free.
     completes one only words before after command held inputs status free ends.ending ends.answer ends.cause
@@ -117,6 +123,20 @@ pub target_clause : (words : List (List ℕ)) (before after : Moment) (status : 
 target_clause words before after status all = λ origin target held inputs free zero.
     let done = all (Exchange origin target) held inputs free in
     (done.made.groups, done.made.each, done.stored ∙ ap (λ (files : List FileOut). Some (with_files held files)) done.made.files)
+
+pub pieces_clause : (words : List (List ℕ)) (before after : Moment) (status : ℕ)
+    → CompletesClause words before after status → PiecesClause words before after status
+pieces_clause words before after status all = λ origin out held inputs free.
+    let done = all (Normalise origin out) held inputs free in
+    let made = done.made in (
+      done.product.files,
+      made.facts,
+      made.pieces,
+      made.files,
+      done.answer ∙ ap status_found made.found,
+      done.stored,
+      subst (λ (line : List ℕ). Appends before.out.content after.out.content line) (made.line ∙ ap printed_of made.found) done.printed,
+    )
 
 -- ---- words that spell no command
 
@@ -173,7 +193,8 @@ answer_clause words before after err now status ends = answer_of words before af
 
 -- ---- refusals
 
-module _ (only : OnlyShelfFails) (one : OneRefusal) (words : List (List ℕ)) (before after : Moment) (status : ℕ) (command : Command) (held : Held)
+module _ (only : OnlyShelfFails) (one : OneRefusal) (words : List (List ℕ)) (before after : Moment) (status : ℕ) (command : Command)
+    (held : Held)
     (fetches : List Fetch) (first : Ending) (spelled : Spells words command) (told : before.shelf.content ≡ Some held)
     (each : AreTold (Some held) fetches) (fails : FailsFirst command fetches first) (other : (name : List ℕ) → ¬ (first ≡ Read name)) where
   -- what was refused is this
@@ -241,6 +262,7 @@ refused_or_failed status (inr (inr a)) b = omega arith
 -- what was found has a status of a run that came to its end
 found_is_done : (finding : Finding) → IsDone (status_found finding)
 found_is_done (Solved pieces firings) = inl refl
+found_is_done (Normalised facts pieces) = inl refl
 
 -- a run that is refused prints nothing
 quiet : (words : List (List ℕ)) (before after : Device (List ℕ)) (status : ℕ) → IsRefused status → after ≡ before

@@ -1,6 +1,7 @@
 pub mod ListLemmas
 pub mod RankLemmas
 pub mod StoringLemmas
+pub mod CuttingLemmas
 pub mod RenderingLemmas
 pub mod StoredOrderLemmas
 pub mod FactTextLemmas

@@ -28,7 +28,8 @@ count_is_point p [] i within point = omega arith
 count_is_point p (x ∷ xs) zero within point =
     let here : p x ≡ false = point.1 0 x (omega arith) (omega arith) in
     let rest : count_by p xs ≡ 0 =
-    count_is_point p xs zero (omega arith) (λ k d low high. absurd (omega arith), λ k d low high. point.1 (suc k) d (omega arith) (omega arith)) in
+    count_is_point p xs zero (omega arith)
+    (λ k d low high. absurd (omega arith), λ k d low high. point.1 (suc k) d (omega arith) (omega arith)) in
     sum_by-cons (λ y. cond (p y) 1 0) x xs ∙ (λ i. cond (here i) 1 0 + rest i)
 count_is_point p (x ∷ xs) (suc i) within point =
     let here : p x ≡ true = point.0 0 x (omega arith) (omega arith) in

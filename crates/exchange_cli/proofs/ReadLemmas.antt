@@ -13,7 +13,7 @@ use Rattle.decl_text.specs.declared.fault.MappingFault.{MappingFault}
 use Rattle.mapping_core.specs.Mapping.{Meaning as MappingValue}
 use Rattle.mapping_core.specs.Reading.{IsMapping, IsFirstFault as IsMappingFault}
 use Rattle.temporal_csv.specs.Table.{IsTable, TableFaults}
-use Rattle.exchange_cli.specs.Words.{Command, Exchange, Origin, Spells, origin_of}
+use Rattle.exchange_cli.specs.Words.{Command, Exchange, Normalise, Origin, Spells, origin_of}
 use Rattle.exchange_cli.specs.Names.{table_name}
 use Rattle.exchange_cli.specs.Built.{Takes}
 use Rattle.exchange_cli.specs.Inputs.{SourceTable, Inputs}
@@ -23,6 +23,15 @@ use Rattle.exchange_cli.specs.declared.ending.Ending.TheVariants.{Missing, TooLo
 
 -- the words are one command's
 pub one_command : (words : List (List ℕ)) (a b : Command) → Spells words a → Spells words b → a ≡ b
+one_command words (Exchange a target) (Normalise b out) p q = absurd (let same = sym p ∙ q in cc)
+one_command words (Normalise a out) (Exchange b target) p q = absurd (let same = sym p ∙ q in cc)
+one_command words (Normalise a target) (Normalise b other) p q =
+    let same : codes "normalise" ∷ a.mapping ∷ a.source ∷ target ∷ [] ≡ codes "normalise" ∷ b.mapping ∷ b.source ∷ other ∷ [] =
+    sym p ∙ q in
+    let mapping : a.mapping ≡ b.mapping = cc in
+    let source : a.source ≡ b.source = cc in
+    let out : target ≡ other = cc in
+    λ i. Normalise (record { mapping = mapping i; source = source i }) (out i)
 one_command words (Exchange a target) (Exchange b other) p q =
     let same : codes "exchange" ∷ a.mapping ∷ a.source ∷ target ∷ [] ≡ codes "exchange" ∷ b.mapping ∷ b.source ∷ other ∷ [] =
     sym p ∙ q in
@@ -69,11 +78,13 @@ module _ (held : Held) where
   -- the first of fetches that are told, and those behind it
   pub first_told : (fetches : List Fetch) (fetch : Fetch) (later : List Fetch) → fetches ≡ fetch ∷ later → AreTold (Some held) fetches
       → Shows (Some held) fetch.name fetch.limit fetch.answer
-  first_told fetches fetch later all told = All-head (λ (f : Fetch). Shows (Some held) f.name f.limit f.answer) fetch later (subst (λ f. AreTold (Some held) f) all told)
+  first_told fetches fetch later all told =
+      All-head (λ (f : Fetch). Shows (Some held) f.name f.limit f.answer) fetch later (subst (λ f. AreTold (Some held) f) all told)
 
   pub later_told : (fetches : List Fetch) (fetch : Fetch) (later : List Fetch) → fetches ≡ fetch ∷ later → AreTold (Some held) fetches
       → AreTold (Some held) later
-  later_told fetches fetch later all told = All-tail (λ (f : Fetch). Shows (Some held) f.name f.limit f.answer) fetch later (subst (λ f. AreTold (Some held) f) all told)
+  later_told fetches fetch later all told =
+      All-tail (λ (f : Fetch). Shows (Some held) f.name f.limit f.answer) fetch later (subst (λ f. AreTold (Some held) f) all told)
 
   -- what was answered is what is held
   pub answer_is : (fetch : Fetch) (name : List ℕ) (limit : ℕ) (found : Fetched) → Shows (Some held) fetch.name fetch.limit fetch.answer
@@ -87,7 +98,8 @@ module _ (held : Held) where
   given_is fetch name limit bytes shows gives = subst (λ (f : Fetch). Shows (Some held) f.name f.limit f.answer) gives shows
 
   -- where the bytes that are held have no fault, only the shelf itself ends the run at this fetch
-  pub only_shelf_stops : (HasFault : List ℕ → Ending → Type 0) (fetch : Fetch) (name : List ℕ) (limit : ℕ) (bytes : List ℕ) (ending : Ending)
+  pub only_shelf_stops : (HasFault : List ℕ → Ending → Type 0) (fetch : Fetch) (name : List ℕ) (limit : ℕ) (bytes : List ℕ)
+      (ending : Ending)
       → Shows (Some held) fetch.name fetch.limit fetch.answer → fetched.Bytes bytes ≡ fetched_of (get held name) limit
       → ((e : Ending) → ¬ (HasFault bytes e)) → StopsAt fetch name limit HasFault ending → IsReadFault ending
   only_shelf_stops HasFault fetch name limit bytes (Missing about) shows is clean at =
@@ -97,7 +109,8 @@ module _ (held : Held) where
   only_shelf_stops HasFault fetch name limit bytes (Read about) shows is clean at = (about, refl)
   only_shelf_stops HasFault fetch name limit bytes ending shows is clean at =
       let other = answer_is fetch name limit (fetched.Bytes at.stops.0) shows at.named at.limited at.stops.1 in
-      absurd (clean ending (subst (λ b. HasFault b ending) (one_bytes (fetched_of (get held name) limit) at.stops.0 bytes other is) at.stops.2))
+      absurd (clean ending (subst (λ b. HasFault b ending)
+      (one_bytes (fetched_of (get held name) limit) at.stops.0 bytes other is) at.stops.2))
 
 -- ---- all that is read
 
@@ -131,7 +144,8 @@ module _ (held : Held) where
       → (p : ReadsTable f prefix relation limit size facts) → (q : ReadsTable g prefix relation limit other others) → q.0 ≡ p.0
   same_bytes f g prefix relation limit size other facts others first second p q =
       let name = table_name prefix relation.name in
-      one_bytes (fetched_of (get held name) limit) q.0 p.0 (given_is held g name limit q.0 second q.1) (given_is held f name limit p.0 first p.1)
+      one_bytes (fetched_of (get held name) limit) q.0 p.0 (given_is held g name limit q.0 second q.1)
+      (given_is held f name limit p.0 first p.1)
 
   pub same_size : (f g : Fetch) (prefix : List ℕ) (relation : Relation) (limit size other : ℕ) (facts others : SourceTable)
       → Shows (Some held) f.name f.limit f.answer → Shows (Some held) g.name g.limit g.answer
@@ -161,10 +175,12 @@ module _ (held : Held) where
       let mapping = one_mapping_read one_mapping p.read.first q.read.first origin a.mapping b.mapping
       (first_told held f p.read.first p.read.later p.read.all first) (first_told held g q.read.first q.read.later q.read.all second)
       p.read.mapping q.read.mapping in
-      let tables = one_reading_of_tables one_table origin.source tables_limit a.mapping.rules.sources p.read.later q.read.later a.tables b.tables
+      let tables = one_reading_of_tables one_table origin.source tables_limit a.mapping.rules.sources p.read.later
+      q.read.later a.tables b.tables
       (later_told held f p.read.first p.read.later p.read.all first) (later_told held g q.read.first q.read.later q.read.all second)
       p.read.tables
-      (subst (λ (m : MappingValue). ReadsTables q.read.later origin.source tables_limit m.rules.sources b.tables) (sym mapping) q.read.tables) in
+      (subst (λ (m : MappingValue). ReadsTables q.read.later origin.source tables_limit m.rules.sources b.tables)
+      (sym mapping) q.read.tables) in
       λ i. record { mapping = mapping i; tables = tables i }
 
   -- where all tables are read, only the shelf itself ends the run at one
@@ -173,7 +189,8 @@ module _ (held : Held) where
       → ReadsTables f prefix left relations tables → StopsAtTable g prefix left relations ending → IsReadFault ending
   only_shelf_stops_tables clean prefix left [] f g tables ending first second p q = absurd q
   only_shelf_stops_tables clean prefix left (r ∷ rs) f g tables ending first second p (fetch, later, all, inl here) =
-      only_shelf_stops held (RefusesTable prefix r) fetch (table_name prefix r.name) left p.6.0 ending (first_told held g fetch later all second)
+      only_shelf_stops held (RefusesTable prefix r) fetch (table_name prefix r.name) left p.6.0 ending
+      (first_told held g fetch later all second)
       (given_is held p.0 (table_name prefix r.name) left p.6.0 (first_told held f p.0 p.1 p.5 first) p.6.1)
       (table_is_not_refused clean prefix r p.6.0 p.3 p.6.3) here.1
   only_shelf_stops_tables clean prefix left (r ∷ rs) f g tables ending first second p (fetch, later, all, inr (size, facts, read, more)) =
@@ -183,13 +200,16 @@ module _ (held : Held) where
       (later_told held g fetch later all second) p.8 (subst (λ n. StopsAtTable later prefix (left - n) rs ending) same more)
 
   -- where all is read, only the shelf itself fails
-  pub only_shelf_fails : OneMapping → MappingOrFault → TableOrFault → (command : Command) (f g : List Fetch) (inputs : Inputs) (ending : Ending)
+  pub only_shelf_fails : OneMapping → MappingOrFault → TableOrFault → (command : Command) (f g : List Fetch) (inputs : Inputs)
+      (ending : Ending)
       → AreTold (Some held) f → AreTold (Some held) g → Reads command f inputs → FailsFirst command g ending → IsReadFault ending
   only_shelf_fails one sound clean command f g inputs ending first second p (fetch, later, all, inl here) =
       let origin = origin_of command in
       let bytes = p.read.mapping.0 in
-      only_shelf_stops held (RefusesMapping command) fetch origin.mapping mapping_limit bytes ending (first_told held g fetch later all second)
-      (given_is held p.read.first origin.mapping mapping_limit bytes (first_told held f p.read.first p.read.later p.read.all first) p.read.mapping.1)
+      only_shelf_stops held (RefusesMapping command) fetch origin.mapping mapping_limit bytes ending
+      (first_told held g fetch later all second)
+      (given_is held p.read.first origin.mapping mapping_limit bytes
+      (first_told held f p.read.first p.read.later p.read.all first) p.read.mapping.1)
       (taken_is_not_refused one sound command bytes inputs.mapping p.read.mapping.2 p.taken) here.1
   only_shelf_fails one sound clean command f g inputs ending first second p (fetch, later, all, inr (mapping, read, takes, stops)) =
       let origin = origin_of command in

@@ -30,7 +30,8 @@ module _ (relations : List Relation) (tables : List TermTable) (are : AreTargetT
 
   pub wide_at : (k : ℕ) (r : Relation) (t : TermTable) → k < length tables → r ≡ get_or relations k r → t ≡ get_or tables k t → AreWide r t
   wide_at k r t within relation_is table_is =
-      let here : AreWide (get_or relations k r) (get_or tables k t) = all_zip_at AreWide relations tables are k r t (relation_at k within) in
+      let here : AreWide (get_or relations k r) (get_or tables k t) = all_zip_at AreWide relations tables are k r t
+      (relation_at k within) in
       subst (λ (q : Relation). AreWide q t) (sym relation_is)
       (subst (λ (u : TermTable). AreWide (get_or relations k r) u) (sym table_is) here)
 

@@ -71,7 +71,8 @@ stops_early words before after out command (Table name fault) spelled keeps (inr
 stops_early words before after out command (Read name) spelled keeps (inr (fetches, told, fails, counted)) =
     ((command, spelled, fetches, told, fails), (keeps.same, refl), counted name refl)
 stops_early words before after out command Memory spelled keeps (inr stops) = (command, spelled, (keeps.same, refl))
-stops_early words before after out command (Done finding) spelled keeps (inr stops) = absurd (can_fail command stops.0 (Done finding) stops.2)
+stops_early words before after out command (Done finding) spelled keeps (inr stops) =
+    absurd (can_fail command stops.0 (Done finding) stops.2)
 stops_early words before after out command Words spelled keeps (inr stops) = absurd (can_fail command stops.0 Words stops.2)
 stops_early words before after out command (Write name) spelled keeps (inr stops) = absurd (can_fail command stops.0 (Write name) stops.2)
 stops_early words before after out command Output spelled keeps (inr stops) = absurd (can_fail command stops.0 Output stops.2)

@@ -35,13 +35,24 @@ shows_failure None name limit = tt
 shows_failure (Some held) name limit = tt
 
 -- a fetch that fails is where the reading of what it gives fails
-pub fetch_stops : (content : Option Held) (faults : ℕ) (after : Device Held) (name : List ℕ) (limit : ℕ) (HasFault : List ℕ → Ending → Type 0)
+pub fetch_stops : (content : Option Held) (faults : ℕ) (after : Device Held) (name : List ℕ) (limit : ℕ)
+    (HasFault : List ℕ → Ending → Type 0)
     (ending : Ending)
     → FailsToFetch (device content faults) after name limit ending → FailsToRead (device content faults) after name limit HasFault ending
 fetch_stops content faults after name limit HasFault (Missing about) fails =
-    inr (fetch_of name limit (Ok fetched.Missing), fails.1, record { named = refl; limited = refl; stops = (fails.0, refl) }, λ n e. absurd cc)
+    inr (
+      fetch_of name limit (Ok fetched.Missing),
+      fails.1,
+      record { named = refl; limited = refl; stops = (fails.0, refl) },
+      λ n e. absurd cc,
+    )
 fetch_stops content faults after name limit HasFault (TooLong about) fails =
-    inr (fetch_of name limit (Ok fetched.TooLong), fails.1, record { named = refl; limited = refl; stops = (fails.0, refl) }, λ n e. absurd cc)
+    inr (
+      fetch_of name limit (Ok fetched.TooLong),
+      fails.1,
+      record { named = refl; limited = refl; stops = (fails.0, refl) },
+      λ n e. absurd cc,
+    )
 fetch_stops content faults after name limit HasFault (Read about) fails =
     inr (
       fetch_of name limit (Err Failed),
@@ -176,7 +187,8 @@ reads_all told command name prefix mapping tables named below (bytes, answers, i
 -- ---- the tables
 
 -- from the tables that these fetches gave, the work goes on with the relations that are left
-pub record GoesOn (fetches : List Fetch) (prefix : List ℕ) (relations rest : List Relation) (tables : List SourceTable) (left : ℕ) : Type 0 where
+pub record GoesOn (fetches : List Fetch) (prefix : List ℕ) (relations rest : List Relation) (tables : List SourceTable)
+    (left : ℕ) : Type 0 where
   pub reads : (later : List Fetch) (others : List SourceTable) → ReadsTables later prefix left rest others
       → ReadsTables (fetches ++ later) prefix tables_limit relations (tables ++ others)
   pub stops : (later : List Fetch) (ending : Ending) → StopsAtTable later prefix left rest ending

@@ -2,7 +2,7 @@
 use Rattle.exchange_cli.specs.declared.command.Origin.{Origin as LentOrigin}
 use Rattle.exchange_cli.specs.declared.command.Command.{Command as Lent}
 use Rattle.exchange_cli.specs.declared.command.Command.TheVariants as lent
-use Rattle.exchange_cli.specs.Words.{Origin, Command, Exchange}
+use Rattle.exchange_cli.specs.Words.{Origin, Command, Exchange, Normalise}
 
 -- the words that it borrows
 abbrev pub lent_origin : LentOrigin → Origin
@@ -10,3 +10,4 @@ lent_origin origin = record { mapping = origin.mapping.now; source = origin.sour
 
 abbrev pub command_of : Lent → Command
 command_of (lent.Exchange origin target) = Exchange (lent_origin origin) target.now
+command_of (lent.Normalise origin out) = Normalise (lent_origin origin) out.now

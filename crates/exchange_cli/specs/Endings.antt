@@ -2,7 +2,7 @@
 use Rattle.std.specs.Prelude.{◌≡◌, ◌⊎◌, ℕ, List, [], ◌∷◌, ◌++◌, codes}
 use Rattle.std.specs.Fmt.{decimal}
 use Rattle.exchange_cli.specs.declared.ending.Finding.{Finding}
-use Rattle.exchange_cli.specs.declared.ending.Finding.TheVariants.{Solved}
+use Rattle.exchange_cli.specs.declared.ending.Finding.TheVariants.{Solved, Normalised}
 use Rattle.exchange_cli.specs.declared.ending.Ending.{Ending}
 use Rattle.exchange_cli.specs.declared.ending.Ending.TheVariants.{Done, Words, Missing, TooLong, Mapping, NotBuilt, Table, Read, Write, Output, Memory}
 use Rattle.exchange_cli.specs.FaultTexts.{mapping_fault, table_fault}
@@ -10,6 +10,7 @@ use Rattle.exchange_cli.specs.FaultTexts.{mapping_fault, table_fault}
 -- the answer of the program where all was done, by what was found
 abbrev pub status_found : Finding → ℕ
 status_found (Solved pieces firings) = 0
+status_found (Normalised facts pieces) = 0
 
 -- the answer of the program
 abbrev pub status_of : Ending → ℕ
@@ -45,6 +46,8 @@ solved = line (codes "solved")
 abbrev pub printed_of : Finding → List ℕ
 printed_of (Solved pieces firings) =
     line (codes "solved: " ++ decimal pieces ++ codes " source pieces, " ++ decimal firings ++ codes " firings")
+printed_of (Normalised facts pieces) =
+    line (codes "normalised: " ++ decimal facts ++ codes " facts, " ++ decimal pieces ++ codes " pieces")
 
 -- what is said of an ending on the standard error
 abbrev pub line_of : Ending → List ℕ

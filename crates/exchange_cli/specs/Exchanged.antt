@@ -5,6 +5,7 @@ use Rattle.rule_core.specs.Rebase.{IsRebased}
 use Rattle.rule_core.specs.Validity.{IsValid}
 use Rattle.mapping_core.specs.Mapping.{HasItsConstants}
 use Rattle.fact_table.specs.declared.fact.Fact.{Fact}
+use Rattle.fact_table.specs.Facts.{IsTable}
 use Rattle.fact_table.specs.Snapshots.{stamped_facts}
 use Rattle.normaliser.specs.Normalised.{IsNormalised}
 use Rattle.failure_trace.specs.declared.firing.Firing.{Firing}
@@ -14,7 +15,7 @@ use Rattle.exchange_engine.specs.Solved.{AreTargetTables, AreCoalesced, AreUnive
 use Rattle.exchange_engine.specs.declared.outcome.Solved.{Solved}
 use Rattle.exchange_cli.specs.Inputs.{Inputs}
 
--- what is loaded of what was read: the same mapping by the numbers of a pool, and the same facts
+-- what is loaded of what was read: the same mapping by the numbers of a pool, and the same facts, each once
 pub record IsLoadedFrom (inputs : Inputs) (loaded : LoadedOf) : Type 0 where
   pub read_valid : IsValid inputs.mapping.rules
   pub constants : HasItsConstants inputs.mapping.rules inputs.mapping.pool
@@ -23,6 +24,7 @@ pub record IsLoadedFrom (inputs : Inputs) (loaded : LoadedOf) : Type 0 where
   pub each : HasEachConstant loaded
   pub rules : IsRebased inputs.mapping.pool loaded.pool inputs.mapping.rules loaded.rules
   pub facts : AreFactsOf inputs.tables loaded.pool loaded.table
+  pub once : IsTable loaded.table
 
 -- what an exchange without equalities gives of what is loaded
 pub record IsSolvedFrom (loaded : LoadedOf) (solved : Solved) : Type 0 where

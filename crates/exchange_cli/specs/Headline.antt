@@ -8,13 +8,16 @@ use Rattle.rule_core.specs.Mapping.{RuleSet}
 use Rattle.rule_core.specs.Terms.{FactOf, StampedOf}
 use Rattle.rule_core.specs.Snapshot.{snapshot_at}
 use Rattle.rule_core.specs.Solution.{HasSolution, IsSolution}
-use Rattle.exchange_cli.specs.Words.{Command, Exchange, Origin, Spells, SpellsNone}
+use Rattle.exchange_cli.specs.Words.{Command, Exchange, Normalise, Origin, Spells, SpellsNone}
 use Rattle.exchange_cli.specs.Inputs.{Inputs, name_of, source_of}
 use Rattle.exchange_cli.specs.Files.{SolvedFiles, AreSolvedFiles, in_order}
 use Rattle.exchange_cli.specs.Product.{Makes, IsFindingOf, IsOwnStatus}
 use Rattle.exchange_cli.specs.Endings.{IsDone, IsRefused, status_of, status_found, line_of, printed_of}
 use Rattle.exchange_cli.specs.Work.{Fetch, AreTold, Reads, FailsFirst}
 use Rattle.exchange_cli.specs.Run.{Device, Moment, with_files, Untouched, Stores, Delivers, IsMadeFor, Says}
+use Rattle.exchange_cli.specs.Pieces.{ArePieceFiles}
+use Rattle.exchange_cli.specs.declared.file.FileOut.{FileOut}
+use Rattle.exchange_cli.specs.declared.ending.Finding.TheVariants.{Normalised}
 use Rattle.exchange_cli.specs.declared.product.Product.{Product}
 use Rattle.exchange_cli.specs.declared.ending.Finding.{Finding}
 use Rattle.exchange_cli.specs.declared.ending.Ending.{Ending}
@@ -118,3 +121,15 @@ TargetClause words before after status =
     (origin : Origin) (target : List ℕ) (held : Held) (inputs : Inputs)
     → IsUnhindered words before after status (Exchange origin target) held inputs → status ≡ 0
     → (files : SolvedFiles) × AreSolvedFiles inputs target files × (after.shelf.content ≡ Some (with_files held (in_order files)))
+
+-- ---- `normalise MAPPING SOURCE OUT`
+
+-- the status is 0, the shelf holds what it held, with exactly the files of the source in pieces set, and the line with the numbers of
+-- facts and of pieces is printed
+abbrev pub PiecesClause : List (List ℕ) → Moment → Moment → ℕ → Type 0
+PiecesClause words before after status =
+    (origin : Origin) (out : List ℕ) (held : Held) (inputs : Inputs)
+    → IsUnhindered words before after status (Normalise origin out) held inputs
+    → (files : List FileOut) × (facts : ℕ) × (pieces : ℕ) × ArePieceFiles inputs out files facts pieces × (status ≡ 0)
+    × (after.shelf.content ≡ Some (with_files held files))
+    × Appends before.out.content after.out.content (printed_of (Normalised facts pieces))

@@ -9,8 +9,10 @@ pub mod Target
 pub mod Rendering
 pub mod Exchanged
 pub mod Files
+pub mod Pieces
 pub mod Product
 pub mod Work
 pub mod Run
 pub mod Headline
 pub mod Steps
+pub mod Cutting

@@ -20,6 +20,8 @@ pub struct Origin<'a> {
 pub enum Command<'a> {
     /// `exchange MAPPING SOURCE TARGET`, with the prefix of the target.
     Exchange(Origin<'a>, &'a str),
+    /// `normalise MAPPING SOURCE OUT`, with the prefix of what is stored.
+    Normalise(Origin<'a>, &'a str),
 }
 
 impl<'a> Command<'a> {
@@ -29,6 +31,7 @@ impl<'a> Command<'a> {
     {
         match self {
             Command::Exchange(origin, _) => *origin,
+            Command::Normalise(origin, _) => *origin,
         }
     }
 
@@ -38,6 +41,7 @@ impl<'a> Command<'a> {
     {
         match self {
             Command::Exchange(_, _) => is_plain(rules),
+            Command::Normalise(_, _) => true,
         }
     }
 }
@@ -56,6 +60,9 @@ pub fn read_words(words: &[String]) -> Option<Command<'_>>
     };
     if first.as_str() == "exchange" {
         return Some(Command::Exchange(origin, out.as_str()));
+    }
+    if first.as_str() == "normalise" {
+        return Some(Command::Normalise(origin, out.as_str()));
     }
     None
 }

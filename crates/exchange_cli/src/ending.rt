@@ -13,6 +13,8 @@ pub enum Finding {
     /// The mapping has a solution for the source at every instant. The source came in so many pieces, and so many firings came
     /// of them.
     Solved { pieces: usize, firings: usize },
+    /// The source has so many distinct facts, which were cut into so many pieces.
+    Normalised { facts: usize, pieces: usize },
 }
 
 /// How a run ends. Each refusal and each fault names what it is about.
@@ -61,6 +63,10 @@ impl Finding {
             Finding::Solved {
                 pieces: _,
                 firings: _,
+            } => 0,
+            Finding::Normalised {
+                facts: _,
+                pieces: _,
             } => 0,
         }
     }

@@ -3,6 +3,7 @@
 
 mod built;
 mod command;
+mod cutting;
 mod delivery;
 mod ending;
 mod fault_texts;
@@ -12,6 +13,7 @@ mod file_names;
 mod inputs;
 pub mod laws;
 mod making;
+mod pieces;
 mod printing;
 mod product;
 mod rendering;

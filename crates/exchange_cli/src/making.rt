@@ -8,6 +8,7 @@ ghost use Rattle.exchange_cli.specs.Product.{Makes};
 ghost use Rattle.exchange_cli.specs.Steps.{read_of};
 
 use crate::command::Command;
+use crate::cutting::cut;
 use crate::inputs::Inputs;
 use crate::product::Product;
 use crate::solving::solve;
@@ -23,5 +24,6 @@ pub fn make(alloc: Global, command: &Command<'_>, inputs: Inputs) -> Result<Prod
 {
     match command {
         Command::Exchange(_, target) => solve(alloc, target, inputs),
+        Command::Normalise(_, out) => cut(alloc, out, inputs),
     }
 }

@@ -22,6 +22,9 @@ pub fn printed_line(alloc: Global, finding: Finding) -> Result<Bytes, Memory>
             firings,
             " firings",
         ),
+        Finding::Normalised { facts, pieces } => {
+            counts_line(alloc, "normalised: ", facts, " facts, ", pieces, " pieces")
+        }
     }
 }
 

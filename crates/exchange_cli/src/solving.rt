@@ -40,8 +40,8 @@ pub fn solve(alloc: Global, target: &str, inputs: Inputs) -> Result<Product, Mem
     })
 }
 
-// What was read, loaded. The texts that were read are given up.
-fn load_inputs(alloc: Global, inputs: Inputs) -> Result<Loaded, Memory>
+/// What was read, loaded. The texts that were read are given up.
+pub fn load_inputs(alloc: Global, inputs: Inputs) -> Result<Loaded, Memory>
     requires tables { AreTablesOf inputs.mapping.rules.sources inputs.tables }
     requires few { length inputs.mapping.pool + cell_count inputs.tables < 2 ^ 32 - 1 }
     ensures { IfOk result (IsLoadedFrom (read_of inputs)) }
@@ -51,6 +51,7 @@ fn load_inputs(alloc: Global, inputs: Inputs) -> Result<Loaded, Memory>
     let loaded = load(alloc, &mapping, &tables)?;
     loaded.rules.is_kept();
     let _ = loaded.pool.len();
+    let _ = loaded.table.facts();
     Ok(loaded)
 }
 

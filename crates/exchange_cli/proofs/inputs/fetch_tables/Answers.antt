@@ -54,7 +54,8 @@ loop-relation-preserved g c =
           let are = relations_are g (goal.at.loop-relation-preserved g c).After-as_slice-relation-items in
           let within = rw are at c.loop-relation-test.true in
           let is = rw are at c.relation-item.is in
-          rw c.in_ok-push.ensures.ok (one_more_is_read c.args.mapping.now.rules.sources c.loop-relation.tables c.loop-relation.relation-index
+          rw c.in_ok-push.ensures.ok
+          (one_more_is_read c.args.mapping.now.rules.sources c.loop-relation.tables c.loop-relation.relation-index
           c.relation-item.result c.in_ok-facts.facts within is c.loop-relation.invariant.read c.in_ok-facts.ensures.wide
           c.in_ok-facts.ensures.few);
     }
@@ -107,5 +108,6 @@ returns-clause-few g c =
     let are = relations_are g (goal.at.returns-clause-few g c).After-as_slice-relation-items in
     let valid = rw (ap (λ (m : Meaning). m.rules) c.mapping.view_is) at c.is_kept.ensures in
     all_have_few_cells sources c.loop-relation.tables
-    (all_are_read sources c.loop-relation.tables c.loop-relation.relation-index (rw are at c.loop-relation-test.false) c.loop-relation.invariant.read)
+    (all_are_read sources c.loop-relation.tables c.loop-relation.relation-index
+    (rw are at c.loop-relation-test.false) c.loop-relation.invariant.read)
     (omega (arith, valid.relations.most))

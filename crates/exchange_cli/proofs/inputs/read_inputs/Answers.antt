@@ -17,7 +17,8 @@ returns-in_err-mapping-clause-stops g c =
     let p = err_from_is_err_and c.from_residual.result c.from_residual.ensures.1 in
     rw (p.1, p.2) (mapping_stops (device (holds c.args.shelf.now) (faults c.args.shelf.now))
     (device (holds c.fetch_mapping.new.shelf) (faults c.fetch_mapping.new.shelf)) (command_of c.args.command.now)
-    c.origin-origin.result.mapping.now c.in_err-mapping.field-0.0 (ap (λ (o : Origin). o.mapping) c.origin-origin.ensures) c.in_err-mapping.ensures.stops)
+    c.origin-origin.result.mapping.now c.in_err-mapping.field-0.0 (ap (λ (o : Origin). o.mapping) c.origin-origin.ensures)
+    c.in_err-mapping.ensures.stops)
 
 pub returns-then-not-takes-clause-stops : goal.returns-then-not-takes-clause-stops
 returns-then-not-takes-clause-stops g c =
@@ -25,8 +26,9 @@ returns-then-not-takes-clause-stops g c =
     let faults = g.S.Shelf.faults in
     let command = command_of c.args.command.now in
     not_built_stops (device (holds c.args.shelf.now) (faults c.args.shelf.now))
-    (device (holds c.fetch_mapping.new.shelf) (faults c.fetch_mapping.new.shelf)) command c.origin-origin.result.mapping.now c.in_ok-mapping.mapping
-    (ap (λ (o : Origin). o.mapping) c.origin-origin.ensures) c.in_ok-mapping.ensures.reads (λ taken. false≢true (sym c.if-not-takes.true
+    (device (holds c.fetch_mapping.new.shelf) (faults c.fetch_mapping.new.shelf)) command
+    c.origin-origin.result.mapping.now c.in_ok-mapping.mapping (ap (λ (o : Origin). o.mapping) c.origin-origin.ensures)
+    c.in_ok-mapping.ensures.reads (λ taken. false≢true (sym c.if-not-takes.true
     ∙ c.takes.ensures.1 (subst (λ (m : Meaning). Takes command m.rules) (sym c.mapping.view_is) taken)))
 
 pub returns-in_err-tables-clause-stops : goal.returns-in_err-tables-clause-stops
@@ -39,8 +41,9 @@ returns-in_err-tables-clause-stops g c =
     let after = device (holds c.fetch_tables.new.shelf) (faults c.fetch_tables.new.shelf) in
     let takes = subst (λ (m : Meaning). Takes command m.rules) c.mapping.view_is (c.takes.ensures.0 c.if-not-takes.false) in
     let p = err_from_is_err_and c.from_residual-in_err-tables.result c.from_residual-in_err-tables.ensures.1 in
-    rw (p.1, p.2) (tables_stop before after command c.origin-origin.result.mapping.now c.origin-origin.result.source.now c.in_ok-mapping.mapping
-    c.in_err-tables.field-0.0 (ap (λ (o : Origin). o.mapping) c.origin-origin.ensures) (ap (λ (o : Origin). o.source) c.origin-origin.ensures)
+    rw (p.1, p.2) (tables_stop before after command c.origin-origin.result.mapping.now c.origin-origin.result.source.now
+    c.in_ok-mapping.mapping c.in_err-tables.field-0.0 (ap (λ (o : Origin). o.mapping) c.origin-origin.ensures)
+    (ap (λ (o : Origin). o.source) c.origin-origin.ensures)
     c.in_ok-mapping.ensures.reads takes
     (stops_since before middle after c.origin-origin.result.source.now c.in_ok-mapping.mapping.rules.sources c.in_err-tables.field-0.0
     c.in_ok-mapping.ensures.keeps c.in_err-tables.ensures.keeps c.in_err-tables.ensures.stops))
@@ -48,8 +51,9 @@ returns-in_err-tables-clause-stops g c =
 pub returns-clause-reads : goal.returns-clause-reads
 returns-clause-reads g c =
     let command = command_of c.args.command.now in
-    reads_all (g.S.Shelf.holds c.args.shelf.now) command c.origin-origin.result.mapping.now c.origin-origin.result.source.now c.in_ok-mapping.mapping
-    c.in_ok-tables.tables (ap (λ (o : Origin). o.mapping) c.origin-origin.ensures) (ap (λ (o : Origin). o.source) c.origin-origin.ensures)
+    reads_all (g.S.Shelf.holds c.args.shelf.now) command c.origin-origin.result.mapping.now c.origin-origin.result.source.now
+    c.in_ok-mapping.mapping c.in_ok-tables.tables (ap (λ (o : Origin). o.mapping) c.origin-origin.ensures)
+    (ap (λ (o : Origin). o.source) c.origin-origin.ensures)
     c.in_ok-mapping.ensures.reads
     (subst (λ (m : Meaning). Takes command m.rules) c.mapping.view_is (c.takes.ensures.0 c.if-not-takes.false))
     (rw c.in_ok-mapping.ensures.keeps.same at c.in_ok-tables.ensures.reads)

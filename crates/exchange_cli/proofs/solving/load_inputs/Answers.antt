@@ -14,4 +14,5 @@ returns c = record {
   each = subst HasEachConstant c.loaded.view_is c.loaded.invariant;
   rules = c.in_ok-loaded.ensures.rules;
   facts = c.in_ok-loaded.ensures.facts;
+  once = rw (← c.loaded.view_is) c.facts.ensures.table;
 }
