@@ -5,8 +5,6 @@
 #[cfg(test)]
 mod adapters;
 #[cfg(test)]
-mod grouping;
-#[cfg(test)]
 mod lists;
 #[cfg(test)]
 mod texts;
