@@ -7,6 +7,4 @@ mod adapters;
 #[cfg(test)]
 mod lists;
 #[cfg(test)]
-mod texts;
-#[cfg(test)]
 mod traces;
