@@ -1,11 +1,25 @@
 //! What a run left, as lines.
 
-use shelf_core::{FetchError, Fetched, MemoryShelf, Shelf};
+use shelf_core::{FetchError, Fetched, MemoryShelf, MemorySink, Shelf};
 use std::alloc::Global;
 use std::io::{self, Print, Write};
 
-/// Prints a text below its name, where it isn't empty, as it stands.
-pub fn print_text(rt: &impl Print, name: &str, text: &[u8]) -> anyhow::Result<()> {
+/// Prints the first line of a row, the status of its run, and both texts.
+pub fn print_run(
+    rt: &impl Print,
+    row: &str,
+    status: u8,
+    out: &MemorySink,
+    err: &MemorySink,
+) -> anyhow::Result<()> {
+    println!(rt; "{}", row.lines().next().unwrap_or(""))?;
+    println!(rt; "status {status}")?;
+    print_text(rt, "out", out.text())?;
+    print_text(rt, "err", err.text())
+}
+
+// Prints a text below its name, where it isn't empty, as it stands.
+fn print_text(rt: &impl Print, name: &str, text: &[u8]) -> anyhow::Result<()> {
     if text.is_empty() {
         return Ok(());
     }

@@ -1,7 +1,7 @@
 //! A row: its words, the files on its shelf, and which calls fail.
 
 use crate::placing::{fail_all, place_all};
-use crate::printing::{print_fetches, print_files, print_text};
+use crate::printing::{print_fetches, print_files, print_run};
 use exchange_cli::run;
 use shelf_core::{MemoryShelf, MemorySink};
 use std::alloc::Global;
@@ -16,29 +16,47 @@ const BYTES: usize = 100_000;
 pub fn run_all(rt: &impl Print, alloc: Global, text: &str) -> anyhow::Result<()> {
     for row in text.split("\n\n") {
         run_row(rt, alloc, row)?;
+        println!(rt; "")?;
     }
     Ok(())
 }
 
-// Runs one row.
+// Runs one row over a shelf and sinks of its own.
 fn run_row(rt: &impl Print, alloc: Global, row: &str) -> anyhow::Result<()> {
     let mut shelf = MemoryShelf::new(alloc);
     let mut out = MemorySink::new(alloc);
     let mut err = MemorySink::new(alloc);
-    place_all(alloc, row, &mut shelf)?;
+    run_over(rt, alloc, row, &mut shelf, &mut out, &mut err)
+}
+
+// Runs one row over these, which are empty, and prints what it left.
+fn run_over(
+    rt: &impl Print,
+    alloc: Global,
+    row: &str,
+    shelf: &mut MemoryShelf,
+    out: &mut MemorySink,
+    err: &mut MemorySink,
+) -> anyhow::Result<()> {
+    place_all(alloc, row, shelf)?;
+    make_room(shelf, out, err)?;
+    fail_all(row, shelf, out, err)?;
+    let words = words_of(alloc, row)?;
+    let status = run(alloc, &words, shelf, out, err);
+    print_run(rt, row, status, out, err)?;
+    print_files(rt, row, shelf)?;
+    print_fetches(rt, alloc, row, shelf)
+}
+
+// Makes the room that each row has where it says nothing else.
+fn make_room(
+    shelf: &mut MemoryShelf,
+    out: &mut MemorySink,
+    err: &mut MemorySink,
+) -> anyhow::Result<()> {
     shelf.room(ENTRIES, BYTES)?;
     out.room(BYTES)?;
     err.room(BYTES)?;
-    fail_all(row, &mut shelf, &mut out, &mut err)?;
-    let words = words_of(alloc, row)?;
-    let status = run(alloc, &words, &mut shelf, &mut out, &mut err);
-    println!(rt; "{}", row.lines().next().unwrap_or(""))?;
-    println!(rt; "status {status}")?;
-    print_text(rt, "out", out.text())?;
-    print_text(rt, "err", err.text())?;
-    print_files(rt, row, &shelf)?;
-    print_fetches(rt, alloc, row, &mut shelf)?;
-    println!(rt; "")?;
     Ok(())
 }
 
