@@ -197,7 +197,7 @@ module _ {X : Type 0} (cmp : X → X → Ordering) where
           ordered = λ i j d h l. before_less (get_or done i d) (get_or done j d) (has i d (omega arith)) (s.stretches i j d h l);
         }
 
-    -- ---- the start
+    -- the start
 
     turned : (r : Ordering) → ordering_reverse r ≡ Greater → r ≡ Less
     turned Less h = refl
@@ -235,7 +235,7 @@ module _ {X : Type 0} (cmp : X → X → Ordering) where
           covers = λ row t. (λ c. c, λ c. c);
         }
 
-    -- ---- one step
+    -- one step
 
     -- the next entry goes behind the others
     pushed : (done : List Entry) (next : Entry) (rest all : List Entry) → Swept done (next ∷ rest) all → HasInstant next.span

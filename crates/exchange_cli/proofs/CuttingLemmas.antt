@@ -34,7 +34,7 @@ use Rattle.exchange_cli.specs.Target.{TargetTable, IsTableFile, AreTableFiles}
 use Rattle.exchange_cli.specs.declared.file.FileOut.{FileOut}
 use Rattle.exchange_cli.proofs.StoringLemmas.{files_push}
 
--- ---- a filter by places
+-- a filter by places
 
 -- where those that pass stand first, they are what the filter keeps
 pub passing_first : {X : Type 0} (p : X → Bool) (xs : List X) (n : ℕ) → n ≤ length xs
@@ -66,7 +66,7 @@ behind_failing p (x ∷ xs) (suc n) fails =
     behind_failing p xs n (λ k d less. fails (suc k) d (omega (arith, less)))
     ∙ sym (λ i. cond (fails zero x (omega arith) i) (x ∷ filter p xs) (filter p xs))
 
--- ---- the pieces of a relation
+-- the pieces of a relation
 
 not_greater : (r s : Ordering) → ordering_then r s ≡ Less → r ≡ Greater → ⊥
 not_greater Less s e g = cc
@@ -133,7 +133,7 @@ module _ (relation : ℕ) where
           (λ k d less. not_of (get_or pieces k d).relation
           (ltb-true (get_or pieces k d).relation relation (first.0 k d (omega arith) less)))
 
--- ---- the tables of pieces
+-- the tables of pieces
 
 module _ (pool : List (List ℕ)) (pieces : List Fact) where
   -- one more table
@@ -201,7 +201,7 @@ wide_of_relation relations pieces k r is wide =
     All-contains (IsAsWideAsItsRelation relations) pieces piece wide from.0 r (ap (λ n. slice_get relations n) same ∙ is))
     (of_relation k pieces) (All-contains_itself (of_relation k pieces))
 
--- ---- from the facts that were read
+-- from the facts that were read
 
 -- facts of relations from a number on have no lesser relation
 from_on : (first : ℕ) (tables : List RawTable) (s : StampedOf (FactOf (List ℕ))) → Contains (facts_from first (map as_terms tables)) s
@@ -266,7 +266,7 @@ loaded_wide relations tables pool table are facts =
     sym (length-map (map constant fact.row) (renamed_term (text_in pool)) ∙ length-map fact.row constant) ∙ wide)
     table (All-contains_itself table)
 
--- ---- and of their pieces
+-- and of their pieces
 
 module _ (rules : RuleSet) (table pieces : List Fact) (normalised : IsNormalised rules table pieces) where
   -- a piece has the relation and the row of a fact

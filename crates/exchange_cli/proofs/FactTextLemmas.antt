@@ -13,7 +13,7 @@ use Rattle.fact_table.specs.declared.fact.Fact.{Fact}
 use Rattle.fact_table.specs.Snapshots.{snapshot_of, stamped_facts, with_terms}
 use Rattle.exchange_engine.specs.Loading.{RawTable, text_in, as_text, AreFactsOf}
 
--- ---- snapshots
+-- snapshots
 
 -- what a row becomes, over its span
 abbrev restamped : {X Y : Type 0} → (X → Y) → StampedOf X → StampedOf Y
@@ -53,7 +53,7 @@ snapshots_same covers a b same t fact = (
   λ c. (covers a fact t).1 (Covers-within b a (λ e. (same e).1) fact t ((covers b fact t).0 c)),
 )
 
--- ---- the facts of a source
+-- the facts of a source
 
 module _ (to : ConstId → List ℕ) (pool : List (List ℕ)) (texts : (c : ConstId) → c.0 < length pool → to c ≡ text_in pool c) where
   -- a row whose constants are named is its texts
@@ -87,7 +87,7 @@ module _ (to : ConstId → List ℕ) (pool : List (List ℕ)) (texts : (c : Cons
       subst (λ l. HoldTheSame l (snapshot_at (facts_of (map as_terms tables)) t)) (sym read)
       (snapshots_same covers (map (as_text pool) table) (facts_of (map as_terms tables)) facts t)
 
--- ---- the facts of tables
+-- the facts of tables
 
 -- the tables whose terms become others
 abbrev pub retold : {X Y : Type 0} → (X → Y) → List (StampedOf (List X)) → List (StampedOf (List Y))

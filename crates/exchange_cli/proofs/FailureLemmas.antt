@@ -48,7 +48,7 @@ one_fault_of_table one prefix relation bytes (Table a first) (Table b second) p 
 one_fault_of_table one prefix relation bytes (Table a first) other p q = absurd q
 one_fault_of_table one prefix relation bytes other b p q = absurd p
 
--- ---- at one fetch
+-- at one fetch
 
 module _ (held : Held) (HasFault : List ℕ → Ending → Type 0) (one : IsOneRefusal HasFault) (f g : Fetch) (name : List ℕ) (limit : ℕ)
     (first : Shows (Some held) f.name f.limit f.answer) (second : Shows (Some held) g.name g.limit g.answer) where
@@ -103,7 +103,7 @@ module _ (held : Held) (HasFault : List ℕ → Ending → Type 0) (one : IsOneR
   one_stop a b p q sure certain =
       faulty_one p.stops.0 a b (answer_is held f name limit (fetched.Bytes p.stops.0) first p.named p.limited p.stops.1) p.stops.2 q certain
 
--- ---- among the tables, and in all
+-- among the tables, and in all
 
 module _ (one_mapping : OneMapping) (one_fault : OneMappingFault) (sound : MappingOrFault) (one_table_fault : OneTableFault)
     (clean : TableOrFault) (held : Held) where

@@ -60,7 +60,7 @@ stops_up_to before after files at file name inside is named others = (
   rw named others,
 )
 
--- ---- the names of the files of a product
+-- the names of the files of a product
 
 -- two tables below one prefix have the names of their relations
 table_names : (prefix a b : List ℕ) → table_name prefix a ≡ table_name prefix b → a ≡ b

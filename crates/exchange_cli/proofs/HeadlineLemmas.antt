@@ -49,7 +49,7 @@ pub says_it : (command : Command) (inputs : Inputs) (product : Product) → Make
 says_it (Exchange origin target) inputs product makes = makes.line
 says_it (Normalise origin out) inputs product makes = makes.line
 
--- ---- unhindered
+-- unhindered
 
 module _ (one : OneReading) (only : OnlyShelfFails) (words : List (List ℕ)) (before after : Moment) (command : Command) (held : Held)
     (inputs : Inputs) (status : ℕ)
@@ -138,7 +138,7 @@ pieces_clause words before after status all = λ origin out held inputs free.
       subst (λ (line : List ℕ). Appends before.out.content after.out.content line) (made.line ∙ ap printed_of made.found) done.printed,
     )
 
--- ---- words that spell no command
+-- words that spell no command
 
 words_of : (words : List (List ℕ)) (before after : Moment) (status : ℕ) (ending : Ending) → status ≡ status_of ending
     → Causes words before after ending → ((command : Command) → ¬ (Spells words command))
@@ -164,7 +164,7 @@ words_clause words before after err now status ends = record {
       subst (Says err now) (words_of words before after status ends.ending ends.answer ends.cause none).2 ends.line;
 }
 
--- ---- words that spell a command
+-- words that spell a command
 
 own_status : (words : List (List ℕ)) (before : Moment) (status : ℕ) (command : Command) (product : Product) → Spells words command
     → IsMadeFor words before product → status ≡ status_found product.finding → IsOwnStatus command status
@@ -191,7 +191,7 @@ pub answer_clause : (words : List (List ℕ)) (before after : Moment) (err now :
     → Ends words before after err now status → AnswerClause words status
 answer_clause words before after err now status ends = answer_of words before after status ends.ending ends.answer ends.cause
 
--- ---- refusals
+-- refusals
 
 module _ (only : OnlyShelfFails) (one : OneRefusal) (words : List (List ℕ)) (before after : Moment) (status : ℕ) (command : Command)
     (held : Held)
@@ -233,7 +233,7 @@ refusal_clause only one words before after err now status ends = λ command held
     ends.cause memory shelf in
     (ends.answer ∙ ap status_of so.0, so.1, subst (λ e. Says err now (line_of e)) so.0 ends.line)
 
--- ---- what is printed
+-- what is printed
 
 -- what is printed of a product is a line of the words
 line_is : (words : List (List ℕ)) (before : Moment) (product : Product) → IsMadeFor words before product
@@ -311,7 +311,7 @@ pub output_clause : (words : List (List ℕ)) (before after : Moment) (err now :
     → Ends words before after err now status → OutputClause words before.out after.out status
 output_clause words before after err now status ends = output_of words before after status ends.ending ends.answer ends.cause
 
--- ---- what is stored
+-- what is stored
 
 -- a run that is refused stores nothing
 keeps_all : (words : List (List ℕ)) (before after : Moment) (status : ℕ) → IsRefused status → Untouched before after

@@ -27,7 +27,7 @@ use Rattle.exchange_engine.specs.Loading.{text_in}
 use Rattle.exchange_cli.specs.Rendering.{rank_in, stored_term}
 use Rattle.exchange_cli.proofs.StoredOrderLemmas.{IsStorable, rank_is_place}
 
--- ---- the constants of rules
+-- the constants of rules
 
 -- a constant among arguments is listed
 in_arguments : (arguments : List Arg) (c : ConstId) → Contains arguments (args.Const c) → Contains (constants_in arguments) c
@@ -65,7 +65,7 @@ of_mapping rules c (inl has) = inl (
 )
 of_mapping rules c (inr has) = inr (inl (has.0, has.1, has.2, has.3, in_atoms has.1.body c has.4))
 
--- ---- names that begin with a pool
+-- names that begin with a pool
 
 -- the number of each text of the pool has this text for its name
 abbrev pub BeginsWith : List (List ℕ) → (ConstId → List ℕ) → Type 0
@@ -87,7 +87,7 @@ module _ (pool : List (List ℕ)) (to : ConstId → List ℕ) (begins : BeginsWi
       let same : Some (to (number c)) ≡ Some (text_in before c) = sym (begins (number c) inside) ∙ there in
       cc
 
--- ---- unknowns by their numbers
+-- unknowns by their numbers
 
 -- values by their names, and back
 values_back : (to : ConstId → List ℕ) (from : List ℕ → ConstId) → ((c : ConstId) → from (to c) ≡ c)

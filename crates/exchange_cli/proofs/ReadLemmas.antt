@@ -40,7 +40,7 @@ one_command words (Exchange a target) (Exchange b other) p q =
     let out : target ≡ other = cc in
     λ i. Exchange (record { mapping = mapping i; source = source i }) (out i)
 
--- ---- what the laws of the readers say
+-- what the laws of the readers say
 
 -- a text is one mapping
 abbrev pub OneMapping : Type 0
@@ -62,7 +62,7 @@ TableOrFault = (columns : List (List ℕ)) (bytes : List ℕ) (facts : SourceTab
 abbrev pub IsReadFault : Ending → Type 0
 IsReadFault ending = (name : List ℕ) × (ending ≡ Read name)
 
--- ---- a fetch
+-- a fetch
 
 -- a fetch gives one list of bytes
 bytes_of : Fetched → List ℕ → List ℕ
@@ -112,7 +112,7 @@ module _ (held : Held) where
       absurd (clean ending (subst (λ b. HasFault b ending)
       (one_bytes (fetched_of (get held name) limit) at.stops.0 bytes other is) at.stops.2))
 
--- ---- all that is read
+-- all that is read
 
 -- a text that is a mapping that the command takes is not refused
 pub taken_is_not_refused : OneMapping → MappingOrFault → (command : Command) (bytes : List ℕ) (mapping : MappingValue)

@@ -76,7 +76,7 @@ fault_stops content faults after name bytes limit HasFault ending answers stops 
       λ n e. absurd (other n e),
     )
 
--- ---- the mapping
+-- the mapping
 
 -- what stops for one cause stops for a wider one
 stops_weaker : (P Q : List ℕ → Ending → Type 0) → ((bytes : List ℕ) (ending : Ending) → P bytes ending → Q bytes ending)
@@ -184,7 +184,7 @@ reads_all told command name prefix mapping tables named below (bytes, answers, i
       },
     )
 
--- ---- the tables
+-- the tables
 
 -- from the tables that these fetches gave, the work goes on with the relations that are left
 pub record GoesOn (fetches : List Fetch) (prefix : List ℕ) (relations rest : List Relation) (tables : List SourceTable)
@@ -235,7 +235,7 @@ goes_on_last told prefix relations tables left (fetches, each, goes) =
           (subst (λ (all : List SourceTable). ReadsTables (fetches ++ []) prefix tables_limit relations all) (append-nil tables) read),
     )
 
--- ---- several calls of one shelf
+-- several calls of one shelf
 
 pub keeps_both : (a b c : Device Held) → Keeps a b → Keeps b c → Keeps a c
 keeps_both a b c first second = record { same = second.same ∙ first.same; later = omega (arith, first.later, second.later) }

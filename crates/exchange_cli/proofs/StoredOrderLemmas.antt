@@ -23,7 +23,7 @@ use Rattle.rule_core.proofs.ListLemmas.{Contains-nil, Contains-head, Contains-co
 use Rattle.exchange_engine.specs.Loading.{text_in}
 use Rattle.exchange_cli.specs.Rendering.{rank_in, stored_term}
 
--- ---- a list in strict order
+-- a list in strict order
 
 nat_cmp-less : (i j : ℕ) → i < j → nat_cmp i j ≡ Less
 nat_cmp-less i j h = grind (arith, nat_tests)
@@ -97,7 +97,7 @@ module _ {X : Type 0} (R : X → X → Ordering) (o : IsTotalOrder R) where
         subst (IsAt (y ∷ ys) x) (sym one) next
   ]
 
--- ---- terms and rows
+-- terms and rows
 
 -- a constant has a text in the pool, and an unknown is one of those that have numbers
 abbrev pub IsStorable : List (List ℕ) → List HeldUnknown → Term → Type 0

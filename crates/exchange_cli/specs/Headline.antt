@@ -23,7 +23,7 @@ use Rattle.exchange_cli.specs.declared.ending.Finding.{Finding}
 use Rattle.exchange_cli.specs.declared.ending.Ending.{Ending}
 use Rattle.exchange_cli.specs.declared.ending.Ending.TheVariants.{Words, Read, Write, Output}
 
--- ---- every command
+-- every command
 
 -- words that spell no command: nothing was fetched, stored or printed, and that is said
 pub record WordsClause (words : List (List ℕ)) (before after : Moment) (err err_after : Device (List ℕ)) (status : ℕ) : Type 0 where
@@ -99,7 +99,7 @@ pub record StoreClause (words : List (List ℕ)) (before after : Moment) (status
       × (Delivers before after product Output ⊎ ((name : List ℕ) × Delivers before after product (Write name))))
   pub refused : IsRefused status → Untouched before after
 
--- ---- `exchange MAPPING SOURCE TARGET`
+-- `exchange MAPPING SOURCE TARGET`
 
 -- some instant of the source has no solution
 abbrev pub HasNoSolution : (ConstId → List ℕ) → RuleSet → List (StampedOf (FactOf (List ℕ))) → Type 0
@@ -122,7 +122,7 @@ TargetClause words before after status =
     → IsUnhindered words before after status (Exchange origin target) held inputs → status ≡ 0
     → (files : SolvedFiles) × AreSolvedFiles inputs target files × (after.shelf.content ≡ Some (with_files held (in_order files)))
 
--- ---- `normalise MAPPING SOURCE OUT`
+-- `normalise MAPPING SOURCE OUT`
 
 -- the status is 0, the shelf holds what it held, with exactly the files of the source in pieces set, and the line with the numbers of
 -- facts and of pieces is printed

@@ -55,7 +55,7 @@ StoresUpTo before after files name =
     (earlier : List FileOut) × (file : FileOut) × (later : List FileOut) × (files ≡ earlier ++ file ∷ later) × (name ≡ file.name)
     × OthersStay (option_map (λ held. with_files held earlier) before.content) after.content name
 
--- ---- delivery, of any product
+-- delivery, of any product
 
 -- what is stored and printed of a product, by the ending
 abbrev pub Delivers : Moment → Moment → Product → Ending → Type 0
@@ -69,7 +69,7 @@ Delivers before after product Output =
     × Rises before.out.faults after.out.faults
 Delivers before after product other = ⊥
 
--- ---- why a run ends so
+-- why a run ends so
 
 -- the words are a command's, and this is its first failure; the last fetch that was made shows it
 abbrev pub Refuses : List (List ℕ) → Moment → Ending → Type 0

@@ -27,7 +27,7 @@ mapping_limit = 1048576
 abbrev pub tables_limit : ℕ
 tables_limit = 67108864
 
--- ---- the fetches of a run
+-- the fetches of a run
 
 -- a fetch that was made: its name, its limit, and what was answered
 pub record Fetch : Type 0 where
@@ -46,7 +46,7 @@ AreTold told fetches = All (λ fetch. Shows told fetch.name fetch.limit fetch.an
 abbrev pub Gives : Fetch → List ℕ → ℕ → List ℕ → Type 0
 Gives fetch name limit bytes = fetch ≡ fetch_of name limit (Ok (fetched.Bytes bytes))
 
--- ---- all is read
+-- all is read
 
 -- the mapping was fetched, and is without a fault
 abbrev pub ReadsMapping : Fetch → Origin → MappingValue → Type 0
@@ -79,7 +79,7 @@ pub record Reads (command : Command) (fetches : List Fetch) (inputs : Inputs) : 
   pub read : ReadsFrom (origin_of command) fetches inputs
   pub taken : Takes command inputs.mapping.rules
 
--- ---- the first failure
+-- the first failure
 
 -- the fetch ended the run so: there was no such file, it was too long, the shelf failed, or the bytes have this fault
 abbrev pub Stops : Fetch → (List ℕ → Ending → Type 0) → Ending → Type 0

@@ -19,7 +19,7 @@ use Rattle.rule_core.proofs.ListLemmas.{Contains-head, Contains-cons, Contains-m
 use Rattle.rule_core.proofs.FiringLemmas.{occurs_from}
 use Rattle.rule_core.proofs.HomomorphismLemmas.{universal_from_below}
 
--- ---- matches as a map carries them
+-- matches as a map carries them
 
 module _ {C : Type 0} (name : ConstId → C) where
   -- the values of arguments, as a map carries them
@@ -51,7 +51,7 @@ module _ {C : Type 0} (name : ConstId → C) where
     Contains-map (value name b) occurs.1.args (Var v) occurs.4,
   )
 
--- ---- there and back
+-- there and back
 
 module _ {C : Type 0} (told back : Unknown C → Unknown C) where
   -- where an unknown goes, and where it comes from

@@ -167,7 +167,7 @@ module _ (table : List Fact) (place : ℕ) (tgd : Tgd) (occurring : (v : ℕ) �
             let term : constant (f v) ≡ constant c = same v (Const c) shown in
             cc
 
-  -- ---- the candidates of a tgd
+  -- the candidates of a tgd
 
   pub made_none : AreMadeFrom table place tgd [] []
   made_none = record {

@@ -82,7 +82,7 @@ module _ {C : Type 0} (name : ConstId → C) where
       let there = All-contains (λ atom. Contains instance (image name b atom)) atoms at.1 m (at.0, at.2, at.3) in
       (image name b at.1, there, Contains-map (value name b) at.1.args (Var v) at.4)
 
-  -- ---- the search
+  -- the search
 
   -- what the values of a tgd's variables must meet for it to fire
   abbrev Fit : Tgd → List (FactOf C) → List C → (ℕ → C) → Type 0

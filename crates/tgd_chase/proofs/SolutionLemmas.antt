@@ -88,7 +88,7 @@ unfolding constant_or
 constant_is base term h = h.1 ∙ ap constant (sym (ap (constant_or base) h.1))
 
 module _ {C : Type 0} (name : ConstId → C) where
-  -- ---- one fired fact
+  -- one fired fact
 
   -- a binding that gives the body's variables their values, and each other variable what its unknown goes to
   module _ (place : ℕ) (tgd : Tgd) (f : ℕ → C) (values : List C) (are : map f (frontier_of tgd) ≡ values)
@@ -126,7 +126,7 @@ module _ {C : Type 0} (name : ConstId → C) where
         ∙ map_agree (λ arg. term_image h (made arg)) (value name e) atom.args (fired_argument atom there) in
         λ i. record { relation = atom.relation; terms = terms i }
 
-  -- ---- from a homomorphism to a solution
+  -- from a homomorphism to a solution
 
   -- the tgd at the place makes the fact from the source
   abbrev Makes : List (FactOf C) → ℕ → FactOf C → Tgd → Type 0
@@ -208,7 +208,7 @@ module _ {C : Type 0} (name : ConstId → C) where
       egds = egds;
     }
 
-  -- ---- from a solution to a homomorphism
+  -- from a solution to a homomorphism
 
   module _ (source target : List (FactOf C))
       (decided : (tgd : Tgd) → AreNumbered tgd.body_vars (occurrences tgd.body) → (values : List C)
@@ -273,7 +273,7 @@ module _ {C : Type 0} (name : ConstId → C) where
         met : All IsMet rules.tgds
         met k d l = record { counted = (valid.rules.tgds k d l).body_vars; holds = solution.tgds k d l }
 
-  -- ---- both ways
+  -- both ways
 
   module _ (cmp : C → C → Ordering) (o : IsTotalOrder cmp) (apart : IsAntisymmetric cmp) (base : C) where
     pub solutions_are : (rules : RuleSet) → IsValid rules → (source target : List (FactOf C)) → IsGround source
