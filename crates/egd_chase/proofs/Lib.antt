@@ -1,0 +1,2 @@
+mod StepMaps
+mod RunMaps
