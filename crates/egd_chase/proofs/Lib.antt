@@ -1,2 +1,3 @@
 mod StepMaps
 mod RunMaps
+mod SettledLemmas

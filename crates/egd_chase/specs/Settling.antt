@@ -1,14 +1,15 @@
 -- What settling does, at each instant, to the maps into instances in which every egd holds. Constants stand for themselves.
-use Rattle.std.specs.Prelude.{ℤ, List, All, Contains}
-use Rattle.time_line.specs.Span.{Has}
+use Rattle.std.specs.Prelude.{◌≡◌, ℤ, List, All, Contains}
+use Rattle.time_line.specs.Span.{Ends, Has}
 use Rattle.term_core.specs.declared.const_id.ConstId.{ConstId}
 use Rattle.rule_core.specs.Terms.{Unknown, TermOf, FactOf}
 use Rattle.rule_core.specs.Mapping.{RuleSet}
 use Rattle.rule_core.specs.Snapshot.{snapshot_at}
 use Rattle.rule_core.specs.Homomorphism.{fact_image, Homomorphism}
+use Rattle.rule_core.specs.Validity.{IsValid}
 use Rattle.rule_core.specs.Solution.{EgdHolds}
 use Rattle.failure_trace.specs.declared.journal.JournalStep.{JournalStep}
-use Rattle.failure_trace.specs.JournalRun.{RowOf, IsRun, IsClash}
+use Rattle.failure_trace.specs.JournalRun.{RowOf, MatchesOver, left_of, right_of, IsRun, IsClash}
 
 -- every egd of the mapping holds in the instance
 abbrev pub EgdsHold : RuleSet → List (FactOf ConstId) → Type 0
@@ -35,3 +36,13 @@ abbrev pub ClashesEndMaps : Type 0
 ClashesEndMaps = (rules : RuleSet) (state last : List (RowOf ConstId)) (journal : List JournalStep) (clash : JournalStep)
     → IsRun rules state journal last → IsClash rules last clash → (t : ℤ) → Has clash.span t
     → (instance : List (FactOf ConstId)) → EgdsHold rules instance → ¬ (Homomorphism (Contains (snapshot_at state t)) instance)
+
+-- each match over a common time gives the two sides of its egd one term
+abbrev pub AreSettled : RuleSet → List (RowOf ConstId) → Type 0
+AreSettled rules rows = All (λ egd. (terms : List (TermOf ConstId)) (c : Ends) → MatchesOver (λ k. k) rows egd terms c
+    → left_of egd terms ≡ right_of egd terms) rules.egds
+
+-- in rows that are settled every egd holds at every instant
+abbrev pub SettledRowsHold : Type 0
+SettledRowsHold = (rules : RuleSet) (rows : List (RowOf ConstId)) → IsValid rules → AreSettled rules rows
+    → (t : ℤ) → EgdsHold rules (snapshot_at rows t)
