@@ -5,5 +5,8 @@ pub mod LineLemmas
 pub mod TextOnce
 pub mod TextFaults
 pub mod ReadBack
+pub mod SnapshotSteps
+pub mod TracedLemmas
+pub mod ProjectionLemmas
 mod TraceRows
 mod JournalRows
