@@ -8,5 +8,9 @@ pub mod ReadBack
 pub mod SnapshotSteps
 pub mod TracedLemmas
 pub mod ProjectionLemmas
+pub mod NumberLemmas
+pub mod BindingLemmas
+pub mod ToldLemmas
+pub mod ProjectLemmas
 mod TraceRows
 mod JournalRows

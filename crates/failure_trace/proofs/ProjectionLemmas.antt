@@ -3,11 +3,12 @@ use Rattle.std.proofs.Common.{◌≡◌, ℕ, ℤ, ◌<◌, Some, Option, MatchO
 use Rattle.std.proofs.Common.{refl, sym, ap, ◌∙◌, subst, inl, inr, arith, Contains}
 use Rattle.std.specs.declared.cmp.Ordering.{Ordering}
 use Rattle.std.specs.FinMap.{IsAntisymmetric}
+use Rattle.std.proofs.lemmas.List.Elements.{Contains-get_or}
 use Rattle.time_line.specs.Span.{Ends, Has}
 use Rattle.term_core.specs.declared.const_id.ConstId.{ConstId}
 use Rattle.rule_core.specs.declared.rules.Egd.{Egd}
 use Rattle.rule_core.specs.declared.rules.Relation.{Relation}
-use Rattle.rule_core.specs.Terms.{Unknown, TermOf, unknown, FactOf}
+use Rattle.rule_core.specs.Terms.{Unknown, numbered, TermOf, unknown, FactOf}
 use Rattle.rule_core.specs.Match.{Matches}
 use Rattle.rule_core.specs.Snapshot.{snapshot_at}
 use Rattle.rule_core.specs.Validity.{IsEgd}
@@ -115,7 +116,7 @@ steps_stay_elsewhere name cmp egd apart state after terms c notes t step out fac
 )
 
 pub clashes_are_traced : {C D : Type 0} → ClashesAreTraced C D
-clashes_are_traced name cmp to number relations egd once is state terms c t clash has =
+clashes_are_traced name cmp to number relations egd is state terms c t once clash has =
     let size = clash.matches.size in
     let below_left : egd.left < length terms = omega (arith, size, is.left) in
     let below_right : egd.right < length terms = omega (arith, size, is.right) in
@@ -126,7 +127,9 @@ clashes_are_traced name cmp to number relations egd once is state terms c t clas
           (snapshot_matches name egd state terms c t clash.matches has);
       sides = subst (λ a. AreClashing a (right_of egd (map (traced_term to number) terms))) (sym left)
           (subst (AreClashing (traced_term to number (left_of egd terms))) (sym right)
-          (clashing_traced to number once (left_of egd terms) (right_of egd terms) clash.sides));
+          (clashing_traced to number terms once (left_of egd terms) (right_of egd terms)
+          (Contains-get_or terms egd.left (unknown (numbered 0)) below_left) (Contains-get_or terms egd.right (unknown (numbered 0)) below_right)
+          clash.sides));
     }
 
 -- the test of an equality that has a replacement

@@ -100,9 +100,11 @@ module _ {C D : Type 0} (to : C → D) (number : Unknown C → ℕ) where
         → replaced_fact order (traced_replacement r) (traced_fact to number fact) ≡ traced_fact to number (replaced_fact cmp r fact)
     fact_traced fact h = λ i. record { relation = fact.relation; terms = terms_traced fact.terms h i }
 
-  -- different constants stay different
-  pub clashing_traced : ((c d : C) → to c ≡ to d → c ≡ d) → (a b : TermOf C) → AreClashing a b
+  -- different constants stay different, if these get different names
+  pub clashing_traced : (terms : List (TermOf C))
+      → ((c d : C) → Contains terms (constant c) → Contains terms (constant d) → to c ≡ to d → c ≡ d)
+      → (a b : TermOf C) → Contains terms a → Contains terms b → AreClashing a b
       → AreClashing (traced_term to number a) (traced_term to number b)
-  clashing_traced once (constant c) (constant d) h = λ e. h (once c d e)
-  clashing_traced once (constant c) (unknown w) h = absurd h
-  clashing_traced once (unknown u) b h = absurd h
+  clashing_traced terms once (constant c) (constant d) left right h = λ e. h (once c d left right e)
+  clashing_traced terms once (constant c) (unknown w) left right h = absurd h
+  clashing_traced terms once (unknown u) b left right h = absurd h

@@ -7,3 +7,4 @@ pub mod JournalRun
 pub mod Projection
 pub mod TraceText
 pub mod Printed
+pub mod Projected

@@ -74,12 +74,12 @@ StepsStayElsewhere C =
     → (state after : List (RowOf C)) (terms : List (TermOf C)) (c : Ends) (notes : List CutNote) (t : ℤ)
     → Equates name cmp state egd terms c notes after → ¬ (Has c t) → HoldTheSame (snapshot_at state t) (snapshot_at after t)
 
--- an allowed clash is, at each instant of its span, a clash on the snapshot there, if no two constants get one name
+-- an allowed clash is, at each instant of its span, a clash on the snapshot there, if no two constants of its binding get one name
 abbrev pub ClashesAreTraced : Type 0 → Type 0 → Type 0
 ClashesAreTraced C D =
     (name : ConstId → C) (cmp : C → C → Ordering) (to : C → D) (number : Unknown C → ℕ) (relations : List Relation) (egd : Egd)
-    → ((c d : C) → to c ≡ to d → c ≡ d) → IsEgd relations egd
-    → (state : List (RowOf C)) (terms : List (TermOf C)) (c : Ends) (t : ℤ) → Clashes name cmp state egd terms c → Has c t
+    → IsEgd relations egd → (state : List (RowOf C)) (terms : List (TermOf C)) (c : Ends) (t : ℤ)
+    → ((c d : C) → Contains terms (constant c) → Contains terms (constant d) → to c ≡ to d → c ≡ d) → Clashes name cmp state egd terms c → Has c t
     → ClashesOn (λ k. to (name k)) egd (map (traced_term to number) terms) (traced_facts to number (snapshot_at state t))
 
 -- a step of a trace by an egd, of this kind and with this binding
