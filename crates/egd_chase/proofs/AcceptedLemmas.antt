@@ -113,7 +113,8 @@ pass_append name rules source first middle last [] ys a b = subst (λ s. Pass na
 pass_append name rules source first middle last (x ∷ xs) ys a b =
     (a.0, a.1, pass_append name rules source a.0 middle last xs ys a.2 b)
 
-module _ (rules : RuleSet) (valid : IsValid rules) (pool : List (List ℕ)) (all : List HeldUnknown) (source : List (FactOf (List ℕ))) (t : ℤ) where
+module _ (rules : RuleSet) (valid : IsValid rules) (pool : List (List ℕ)) (all : List HeldUnknown) (source : List (FactOf (List ℕ)))
+    (t : ℤ) where
   abbrev text : ConstId → List ℕ
   text = pool_text pool
 
@@ -137,7 +138,8 @@ module _ (rules : RuleSet) (valid : IsValid rules) (pool : List (List ℕ)) (all
       order : (u w : Unknown ConstId) → IsKnown u → IsKnown w → nat_cmp (number u) (number w) ≡ unknown_cmp id_cmp u w
       order (numbered m) w k l = absurd k
       order (named r f v) (numbered n) k l = absurd l
-      order (named r f v) (named s g w) k l = number_order all (record { rule = r; frontier = f; var = v }) (record { rule = s; frontier = g; var = w }) k l
+      order (named r f v) (named s g w) k l = number_order all (record { rule = r; frontier = f; var = v })
+          (record { rule = s; frontier = g; var = w }) k l
 
   same_known : (a b : List (FactOf ConstId)) → HoldTheSame a b → AreKnown a → AreKnown b
   same_known a b same known u h =
@@ -229,10 +231,14 @@ module _ (rules : RuleSet) (valid : IsValid rules) (pool : List (List ℕ)) (all
         let replaced = same_sets_mapped (replaced_fact text_cmp all_equal.replacement) held.facts before same in
         let now = traced_facts text number (snapshot_at next t) in
         let on_held : EquatesAll text text_cmp egd (map tell (step_terms told)) held.facts now = record {
-          matches = Matches-within text (bound_to (map tell (step_terms told))) egd.body before held.facts (λ fact. (same fact).1) all_equal.matches;
+          matches = Matches-within text (bound_to (map tell (step_terms told))) egd.body before held.facts
+              (λ fact. (same fact).1) all_equal.matches;
           replacement = all_equal.replacement;
           sides = all_equal.sides;
-          replaced = λ fact. (λ c. (all_equal.replaced fact).0 ((replaced fact).0 c), λ c. (replaced fact).1 ((all_equal.replaced fact).1 c));
+          replaced = λ fact. (
+            λ c. (all_equal.replaced fact).0 ((replaced fact).0 c),
+            λ c. (replaced fact).1 ((all_equal.replaced fact).1 c),
+          );
         } in
         let k = equalities_are_allowed text rules source egd step.binding held now there tells.names
         (subst (λ terms. EquatesAll text text_cmp egd terms held.facts now) (terms_are EgdStep told step egd tells) on_held) in (
@@ -249,7 +255,8 @@ module _ (rules : RuleSet) (valid : IsValid rules) (pool : List (List ℕ)) (all
         let on = clashes_are_traced (λ k. k) id_cmp text number rules.targets egd is state (step_terms told) told.span t
         (λ c d a b e. texts_apart pool is_pool c d (within c a) (within d b) e) clash at in
         let on_held : ClashesOn text egd (map tell (step_terms told)) held.facts = record {
-          matches = Matches-within text (bound_to (map tell (step_terms told))) egd.body before held.facts (λ fact. (same fact).1) on.matches;
+          matches = Matches-within text (bound_to (map tell (step_terms told))) egd.body before held.facts
+              (λ fact. (same fact).1) on.matches;
           sides = on.sides;
         } in
         subst (λ s. step_tests text rules source (going held) s (goes clashed)) (step_is ClashStep told step egd tells)
@@ -279,7 +286,8 @@ module _ (rules : RuleSet) (valid : IsValid rules) (pool : List (List ℕ)) (all
       }
   settle [] (step ∷ steps) state last held run known same tells = absurd tells
   settle (told ∷ journal) steps state last held run known same tells =
-      let k = chosen (λ egd. Equates (λ c. c) id_cmp state egd (step_terms told) told.span told.cuts run.0) (slice_get rules.egds told.egd) run.1 in
+      let k = chosen (λ egd. Equates (λ c. c) id_cmp state egd (step_terms told) told.span told.cuts run.0)
+      (slice_get rules.egds told.egd) run.1 in
       by (has told.span t) refl steps tells k.0 k.1 k.2
       (λ steps held known same tells. settle journal steps run.0 last held run.2 known same tells)
     where
@@ -299,16 +307,23 @@ module _ (rules : RuleSet) (valid : IsValid rules) (pool : List (List ℕ)) (all
           let one = settled_step held state run.0 same known told step egd member is equates at told_by in
           let rest = further steps (record held { facts = one.0 })
           (step_known egd is state run.0 (step_terms told) told.span told.cuts equates at known) one.1 tells.1 in
-          record { after = rest.after; pass = (going (record held { facts = one.0 }), one.2, rest.pass); same = rest.same; known = rest.known }
+          record {
+            after = rest.after;
+            pass = (going (record held { facts = one.0 }), one.2, rest.pass);
+            same = rest.same;
+            known = rest.known;
+          }
       by false e steps tells egd there equates further =
-          let stays = steps_stay_elsewhere (λ c. c) id_cmp egd id_cmp-IsAntisymmetric state run.0 (step_terms told) told.span told.cuts t equates
+          let stays = steps_stay_elsewhere (λ c. c) id_cmp egd id_cmp-IsAntisymmetric state run.0
+          (step_terms told) told.span told.cuts t equates
           (λ at. let no_more = sym e ∙ (Decides-has told.span t).1 at in absurd cc) in
           let moved = same_sets_mapped (traced_fact text number) (snapshot_at state t) (snapshot_at run.0 t) stays in
           further steps held (same_known (snapshot_at state t) (snapshot_at run.0 t) stays known)
           (λ fact. (λ c. (moved fact).0 ((same fact).0 c), λ c. (same fact).1 ((moved fact).1 c))) tells
 
 -- the rows before the journal
-module _ (rules : RuleSet) (valid : IsValid rules) (pool : List (List ℕ)) (source : List (StampedOf (FactOf ConstId))) (firings : List Firing)
+module _ (rules : RuleSet) (valid : IsValid rules) (pool : List (List ℕ)) (source : List (StampedOf (FactOf ConstId)))
+    (firings : List Firing)
     (t : ℤ) (are : AreFirings rules source firings) (rows : List (RowOf ConstId)) (hold : HoldFiringFactsAt rules source t rows) where
   abbrev numbered_here : List HeldUnknown
   numbered_here = unknowns_at rules firings t
@@ -333,7 +348,8 @@ module _ (rules : RuleSet) (valid : IsValid rules) (pool : List (List ℕ)) (sou
       × Contains (fired_facts (λ c. c) place tgd values) fact) (slice_get rules.tgds place) k.1 in
       let tgd : Tgd = g.0 in
       let values : List ConstId = g.2.0 in
-      let f = (are.exact place values t).1 (subst (λ o. IsSomeAnd o (λ tgd. FiresOnce (λ c. c) tgd (snapshot_at source t) values)) (sym g.1) g.2.1) in
+      let f = (are.exact place values t).1
+      (subst (λ o. IsSomeAnd o (λ tgd. FiresOnce (λ c. c) tgd (snapshot_at source t) values)) (sym g.1) g.2.1) in
       let rule : f.1.rule ≡ place = f.4.0 in
       let frontier : f.1.frontier ≡ values = f.4.1 in
       record {
@@ -361,14 +377,16 @@ module _ (rules : RuleSet) (valid : IsValid rules) (pool : List (List ℕ)) (sou
           let here : get_or (range_with_len 0 n) k 0 ≡ k = omega (arith, at) in
           let in_range = subst (Contains (range_with_len 0 n)) here (Contains-get_or (range_with_len 0 n) k 0 (omega (arith, size, l))) in
           in_flat_map (unknowns_of rules) (firings_at firings t) m (the_unknown m k) among
-          (subst (λ us. Contains us (the_unknown m k)) (sym (unknowns_are rules m tgd there)) (Contains-map (the_unknown m) (range_with_len 0 n) k in_range))
+          (subst (λ us. Contains us (the_unknown m k)) (sym (unknowns_are rules m tgd there))
+          (Contains-map (the_unknown m) (range_with_len 0 n) k in_range))
 
       by_arg : (fact : FactOf ConstId) (m : IsMadeHere fact) (atom : Atom) → Contains m.tgd.head atom → (arg : Arg) → Contains atom.args arg
           → value (λ c. c) (fired_term m.firing.rule m.tgd m.firing.frontier) arg ≡ unknown u → Known u
       by_arg fact m atom there (ConstArg c) inside e = absurd cc
       by_arg fact m atom there (Var v) inside e =
           let occurs : Occurs m.tgd.head v = (there.0, atom, there.1, there.2, inside) in
-          let good = All-contains (IsTgd rules.sources rules.targets) rules.tgds m.tgd valid.rules.tgds (in_list rules.tgds m.firing.rule m.tgd m.there) in
+          let good = All-contains (IsTgd rules.sources rules.targets) rules.tgds m.tgd valid.rules.tgds
+          (in_list rules.tgds m.firing.rule m.tgd m.there) in
           let below = head_below rules m.tgd good v occurs in
           elim (cases_lt v m.tgd.body_vars) [
             | inl l ↦
@@ -402,8 +420,10 @@ module _ (rules : RuleSet) (valid : IsValid rules) (pool : List (List ℕ)) (sou
     to_rows fact f among makes =
         let k = Contains-from_filter (λ (g : Firing). has g.span t) firings f among in
         let at : Has f.span t = (Decides-has f.span t).0 k.1 in
-        let g = chosen (λ tgd. Contains (told_facts (fired_facts (λ c. c) f.rule tgd f.frontier)) fact) (slice_get rules.tgds f.rule) makes in
-        let on : FiresOn rules (snapshot_at source t) f.rule f.frontier = (are.exact f.rule f.frontier t).0 (k.0.0, f, k.0.1, k.0.2, (refl, refl, at)) in
+        let g = chosen (λ tgd. Contains (told_facts (fired_facts (λ c. c) f.rule tgd f.frontier)) fact)
+        (slice_get rules.tgds f.rule) makes in
+        let on : FiresOn rules (snapshot_at source t) f.rule f.frontier = (are.exact f.rule f.frontier t).0
+        (k.0.0, f, k.0.1, k.0.2, (refl, refl, at)) in
         let once = subst (λ o. IsSomeAnd o (λ tgd. FiresOnce (λ c. c) tgd (snapshot_at source t) f.frontier)) g.1 on in
         let own = Contains-from_map (traced_fact (pool_text pool) number_of) (fired_facts (λ c. c) f.rule g.0 f.frontier) fact g.2 in
         let is_fact : IsFiringFact (λ c. c) rules (snapshot_at source t) own.0 = (
@@ -419,11 +439,13 @@ module _ (rules : RuleSet) (valid : IsValid rules) (pool : List (List ℕ)) (sou
         let own = Contains-from_map (traced_fact (pool_text pool) number_of) (snapshot_at rows t) fact c in
         let m = made_here own.0 own.1 in
         let told = subst (Contains (told_facts (fired_facts (λ c. c) m.firing.rule m.tgd m.firing.frontier))) own.2
-        (Contains-map (traced_fact (pool_text pool) number_of) (fired_facts (λ c. c) m.firing.rule m.tgd m.firing.frontier) own.0 m.makes) in
+        (Contains-map (traced_fact (pool_text pool) number_of)
+        (fired_facts (λ c. c) m.firing.rule m.tgd m.firing.frontier) own.0 m.makes) in
         (fires.facts fact).1 (inr (
           m.firing,
           m.among,
-          subst (λ o. IsSomeAnd o (λ tgd. Contains (told_facts (fired_facts (λ c. c) m.firing.rule tgd m.firing.frontier)) fact)) (sym m.there) told,
+          subst (λ o. IsSomeAnd o (λ tgd. Contains (told_facts (fired_facts (λ c. c) m.firing.rule tgd m.firing.frontier)) fact))
+              (sym m.there) told,
         ))
 
     made_shown : HoldTheSame fires.after.facts (told_facts (snapshot_at rows t))
@@ -440,21 +462,25 @@ projected_are_accepted rules pool source firings journal last t trace valid is_p
     let are = fails.firings_are in
     let supported : All (IsSupported rules source) (firings_at firings t) = λ k d l.
     All-contains (IsSupported rules source) firings (get_or (firings_at firings t) k d) are.supported
-    (Contains-from_filter (λ (g : Firing). has g.span t) firings (get_or (firings_at firings t) k d) (Contains-get_or (firings_at firings t) k d l)).0 in
+    (Contains-from_filter (λ (g : Firing). has g.span t) firings (get_or (firings_at firings t) k d)
+    (Contains-get_or (firings_at firings t) k d l)).0 in
     let fires = fire rules pool all source t valid (firings_at firings t) projected.fired (record { facts = []; used = [] }) supported
     (distinct_numbers rules firings t are.separate) projected.firings_are in
     let settles = settle rules valid pool all texts t journal projected.settled fails.rows fails.state fires.after fails.run
     (rows_known rules valid pool source firings t are fails.rows fails.rows_are)
     (made_shown rules valid pool source firings t are fails.rows fails.rows_are projected.fired fires) projected.journal_is in
-    let k = chosen (λ egd. Clashes (λ c. c) id_cmp fails.state egd (step_terms last) last.span) (slice_get rules.egds last.egd) fails.clash.0 in
+    let k = chosen (λ egd. Clashes (λ c. c) id_cmp fails.state egd (step_terms last) last.span)
+    (slice_get rules.egds last.egd) fails.clash.0 in
     let egd : Egd = k.0 in
     let member = in_list rules.egds last.egd egd k.1 in
     let is = All-contains (IsEgd rules.targets) rules.egds egd valid.rules.egds member in
-    let told = subst (λ o. IsSomeAnd o (λ (egd : Egd). Tells ClashStep egd.name egd.vars (map (told_value pool all) last.binding) projected.clash)) k.1
+    let told = subst (λ o. IsSomeAnd o
+    (λ (egd : Egd). Tells ClashStep egd.name egd.vars (map (told_value pool all) last.binding) projected.clash)) k.1
     projected.last_is in
     let end = clash_step rules valid pool all texts t settles.after fails.state fails.state settles.same settles.known last projected.clash egd member is
     k.2 fails.at is_pool in_pool told in
-    let steps = pass_append text rules texts start (going fires.after) clashed projected.fired (projected.settled ++ projected.clash ∷ []) fires.pass
+    let steps = pass_append text rules texts start (going fires.after) clashed projected.fired
+    (projected.settled ++ projected.clash ∷ []) fires.pass
     (pass_append text rules texts (going fires.after) (going settles.after) clashed projected.settled (projected.clash ∷ []) settles.pass
     (clashed, end, refl)) in
     subst (λ s. Pass text rules (snapshot_at (renamed_stamped text source) s) start trace.steps clashed) (sym projected.instant)

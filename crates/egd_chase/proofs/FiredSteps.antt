@@ -146,7 +146,8 @@ module _ (rules : RuleSet) (pool : List (List ℕ)) (all : List HeldUnknown) (so
           ∙ ap (map term_of) tells.told
           ∙ terms_told pool all support.binding (exists_unknowns tgd firing)
 
-      behind : map (λ (b : Bound). b.value) (drop tgd.body_vars step.binding) ≡ map (λ u. Null (number_among all u)) (exists_unknowns tgd firing)
+      behind : map (λ (b : Bound). b.value) (drop tgd.body_vars step.binding) ≡ map (λ u. Null (number_among all u))
+          (exists_unknowns tgd firing)
       behind = sym (drop-map (λ (b : Bound). b.value) tgd.body_vars step.binding)
           ∙ ap (drop tgd.body_vars) tells.told
           ∙ ap (λ n. drop n (bound_values pool all support.binding (exists_unknowns tgd firing))) (sym supports.size)
@@ -167,7 +168,8 @@ module _ (rules : RuleSet) (pool : List (List ℕ)) (all : List HeldUnknown) (so
       pub fired_allowed : (held : Instance) → Contains rules.tgds tgd → AreNew held.used (given_numbers tgd step.binding)
           → step_tests text rules texts (going held) step (goes (going (with_head text tgd step.binding held)))
       fired_allowed held there new =
-          subst (λ kind. kind_tests text rules texts kind held step (goes (going (with_head text tgd step.binding held)))) (sym tells.kind_is)
+          subst (λ kind. kind_tests text rules texts kind held step (goes (going (with_head text tgd step.binding held))))
+          (sym tells.kind_is)
           (inl (
             tgd,
             there,
@@ -214,7 +216,8 @@ module _ (rules : RuleSet) (pool : List (List ℕ)) (all : List HeldUnknown) (so
       let one : TellsFiring rules pool all t firing step = tell_them.0 in
       let support = one.support in
       let own : IsSupported rules source firing = supported 0 firing (omega arith) in
-      let k = chosen (λ tgd. Tells TgdStep tgd.name tgd.vars (firing_values pool all tgd firing support) step) (slice_get rules.tgds firing.rule) one.tells in
+      let k = chosen (λ tgd. Tells TgdStep tgd.name tgd.vars (firing_values pool all tgd firing support) step)
+      (slice_get rules.tgds firing.rule) one.tells in
       let tgd : Tgd = k.0 in
       let there = in_list rules.tgds firing.rule tgd k.1 in
       let good = All-contains (IsTgd rules.sources rules.targets) rules.tgds tgd valid.rules.tgds there in
@@ -235,7 +238,6 @@ module _ (rules : RuleSet) (pool : List (List ℕ)) (all : List HeldUnknown) (so
       (subst (AllPairs (λ a b. a ≢ b)) used apart) tell_them.1 in
       let adds = fired_adds firing tgd good support supports one.at step k.2 in
       let added = map (image text (bound_to (terms_in step.binding))) tgd.head in
-      let Made : FactOf (List ℕ) → Type 0 = λ fact. Contains held.facts fact ⊎ ((f : Firing) × Contains (firing ∷ firings) f × Makes fact f) in
       record {
         after = rest.after;
         pass = (going next, fired_allowed firing tgd good support supports one.at step k.2 held there new, rest.pass);
@@ -246,7 +248,8 @@ module _ (rules : RuleSet) (pool : List (List ℕ)) (all : List HeldUnknown) (so
               | inr own_fact ↦ inr (
                 firing,
                 Contains-head firing firings,
-                subst (λ o. IsSomeAnd o (λ g. Contains (traced_facts text (trace_number all) (fired_facts (λ c. c) firing.rule g firing.frontier)) fact))
+                subst (λ o. IsSomeAnd o
+                    (λ g. Contains (traced_facts text (trace_number all) (fired_facts (λ c. c) firing.rule g firing.frontier)) fact))
                     (sym k.1) (subst (λ l. Contains l fact) adds own_fact),
               )
             ]
@@ -258,7 +261,9 @@ module _ (rules : RuleSet) (pool : List (List ℕ)) (all : List HeldUnknown) (so
               | inl e ↦
                   let makes = subst (Makes fact) (sym e) f.2 in
                   let of_tgd : Contains (traced_facts text (trace_number all) (fired_facts (λ c. c) firing.rule tgd firing.frontier)) fact =
-                  subst (λ o. IsSomeAnd o (λ g. Contains (traced_facts text (trace_number all) (fired_facts (λ c. c) firing.rule g firing.frontier)) fact)) k.1 makes in
+                  subst (λ o. IsSomeAnd o
+                  (λ g. Contains
+                  (traced_facts text (trace_number all) (fired_facts (λ c. c) firing.rule g firing.frontier)) fact)) k.1 makes in
                   (rest.facts fact).1 (inl (Contains-append_right held.facts added fact (subst (λ l. Contains l fact) (sym adds) of_tgd)))
               | inr d ↦ (rest.facts fact).1 (inr (f.0, d, f.2))
             ]

@@ -28,7 +28,8 @@ use Rattle.failure_trace.specs.Projected.{pool_text, number_among}
 use Rattle.failure_trace.specs.Projection.{traced_term}
 
 -- images as they are told: constants by other names, and each other term in some way
-module _ {C D : Type 0} (name : ConstId → C) (to : C → D) (tell : TermOf C → TermOf D) (same : (c : C) → tell (constant c) ≡ constant (to c))
+module _ {C D : Type 0} (name : ConstId → C) (to : C → D) (tell : TermOf C → TermOf D)
+    (same : (c : C) → tell (constant c) ≡ constant (to c))
     (b : ℕ → TermOf C) (e : ℕ → TermOf D) where
   values_told : (args : List Arg) → ((v : ℕ) → Contains args (Var v) → e v ≡ tell (b v))
       → map (value (λ k. to (name k)) e) args ≡ map tell (map (value name b) args)
@@ -154,7 +155,8 @@ module _ (pool : List (List ℕ)) (all : List HeldUnknown) where
   terms_told [] (u ∷ us) = ap (λ rest. unknown (numbered (number_among all u)) ∷ rest) (terms_told [] us)
   terms_told (c ∷ cs) us = ap (λ rest. constant (pool_text pool c) ∷ rest) (terms_told cs us)
 
-  pub behind_values : (cs : List ConstId) (us : List HeldUnknown) → drop (length cs) (bound_values cs us) ≡ map (λ u. Null (number_among all u)) us
+  pub behind_values : (cs : List ConstId) (us : List HeldUnknown)
+      → drop (length cs) (bound_values cs us) ≡ map (λ u. Null (number_among all u)) us
   behind_values [] us = refl
   behind_values (c ∷ cs) us = behind_values cs us
 
