@@ -477,8 +477,8 @@ projected_are_accepted rules pool source firings journal last t trace valid is_p
     let told = subst (λ o. IsSomeAnd o
     (λ (egd : Egd). Tells ClashStep egd.name egd.vars (map (told_value pool all) last.binding) projected.clash)) k.1
     projected.last_is in
-    let end = clash_step rules valid pool all texts t settles.after fails.state fails.state settles.same settles.known last projected.clash egd member is
-    k.2 fails.at is_pool in_pool told in
+    let end = clash_step rules valid pool all texts t settles.after fails.state fails.state settles.same settles.known last
+    projected.clash egd member is k.2 fails.at is_pool in_pool told in
     let steps = pass_append text rules texts start (going fires.after) clashed projected.fired
     (projected.settled ++ projected.clash ∷ []) fires.pass
     (pass_append text rules texts (going fires.after) (going settles.after) clashed projected.settled (projected.clash ∷ []) settles.pass

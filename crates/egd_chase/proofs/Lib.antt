@@ -6,3 +6,4 @@ mod NumberOrder
 mod FiredTerms
 mod FiredSteps
 mod AcceptedLemmas
+mod WorkedRun
