@@ -7,4 +7,6 @@ mod adapters;
 #[cfg(test)]
 mod lists;
 #[cfg(test)]
+mod tokens;
+#[cfg(test)]
 mod traces;

@@ -14,7 +14,7 @@ use Rattle.decl_text.specs.declared.fault.ReadError.{ReadError}
 use Rattle.decl_text.specs.declared.fault.ReadError.TheVariants as errors
 use Rattle.decl_text.specs.Tests.{Lexeme, Outcome, stops, Goes, Test, IsFinal, Leads, Fails, IfFault, goes}
 use Rattle.decl_text.specs.Parts.{StandsNext, IsNoName, IsOther}
-use Rattle.decl_text.specs.Declaration.{Named, IsKeyword, EndsLine, HasPlace, with_column, DeclarationPosition, begins, wants_name, wants_parenthesis, wants_column, wants_comma, wants_line_end, declared, declaration_tests}
+use Rattle.decl_text.specs.Declaration.{Named, IsKeyword, EndsLine, HasRoom, with_column, DeclarationPosition, begins, wants_name, wants_parenthesis, wants_column, wants_comma, wants_line_end, declared, declaration_tests}
 use Rattle.decl_text.proofs.TestLemmas.{Leads-one, Leads-join, Fails-token}
 
 -- a fault that is handed on
@@ -77,7 +77,7 @@ module _ (set : RuleSet) (bytes : List ℕ) where
 
   -- the relation's name
   pub name_goes : (from : ℕ) (place : Place) (token : Token) (text : List ℕ) → StandsNext bytes from token (record { kind = Name; text = text })
-      → text ≢ codes "exists" → length text ≤ 64 → IsNewRelationName set text → HasPlace set
+      → text ≢ codes "exists" → length text ≤ 64 → IsNewRelationName set text → HasRoom set
       → Leads (declaration_tests set) bytes from (wants_name place) token.end (wants_parenthesis place text)
   name_goes from place token text stands other short new room =
       Leads-one (declaration_tests set) bytes from (wants_name place) (wants_parenthesis place text) token
@@ -87,7 +87,7 @@ module _ (set : RuleSet) (bytes : List ℕ) where
   pub name_fails : (place : Place) (lexeme : Lexeme) (code : Code) → IsNoName X5 X5 lexeme code
       → declaration_tests set (wants_name place) lexeme (stops code)
   name_fails place lexeme code bad =
-      Named-fails X5 X5 (Test (IsNewRelationName set lexeme.text) U5 (Test (HasPlace set) U6 (Goes (wants_parenthesis place lexeme.text)))) lexeme code bad
+      Named-fails X5 X5 (Test (IsNewRelationName set lexeme.text) U5 (Test (HasRoom set) U6 (Goes (wants_parenthesis place lexeme.text)))) lexeme code bad
 
   pub name_is_old : (from : ℕ) (place : Place) (token : Token) (text : List ℕ) → StandsNext bytes from token (record { kind = Name; text = text })
       → text ≢ codes "exists" → length text ≤ 64 → ¬ (IsNewRelationName set text)
@@ -97,7 +97,7 @@ module _ (set : RuleSet) (bytes : List ℕ) where
       (inl (refl, inl (other, inl (short, inr (old, refl)))))
 
   pub no_place : (from : ℕ) (place : Place) (token : Token) (text : List ℕ) → StandsNext bytes from token (record { kind = Name; text = text })
-      → text ≢ codes "exists" → length text ≤ 64 → IsNewRelationName set text → ¬ (HasPlace set)
+      → text ≢ codes "exists" → length text ≤ 64 → IsNewRelationName set text → ¬ (HasRoom set)
       → Fails (declaration_tests set) bytes from (wants_name place) (record { code = U6; place = token.start })
   no_place from place token text stands other short new full =
       Fails-token (declaration_tests set) bytes from (wants_name place) token (record { kind = Name; text = text }) U6 stands

@@ -1,4 +1,4 @@
--- From each place on, a token stands next or a fault.
+-- From each offset on, a token stands next or a fault.
 use Rattle.std.proofs.Common.{◌≡◌, ◌≢◌, Bool, ℕ, zero, suc, ◌+◌, ◌<◌, true, false, List, [], ◌∷◌, ◌++◌, length, take, drop, All, IsTrue, IsUtf8, encode_utf8_all, refl, sym, ap, ◌∙◌, subst, append_assoc, arith, ◌⊎◌, inl, inr, ⊎_elim}
 use Rattle.std.specs.Char.{encode_utf8, IsScalar}
 use Rattle.std.specs.Str.{StartsWithNoChar, all_scalars, is_utf8}
@@ -15,7 +15,7 @@ use Rattle.decl_text.specs.declared.fault.Code.{Code}
 use Rattle.decl_text.specs.declared.fault.Code.TheVariants.{X1, X2, X3, X4}
 use Rattle.decl_text.specs.declared.fault.MappingFault.{MappingFault}
 use Rattle.decl_text.specs.Quotes.{in_quotes}
-use Rattle.decl_text.specs.Tokens.{is_blank, is_letter, is_name_byte, EndsWord, EndsLine, IsSpelled, IsComment, IsGap, EndsGap, IsNextToken, StopsQuotes, place_in_quotes, IsBadQuoted, IsBadToken, IsNextFault}
+use Rattle.decl_text.specs.Tokens.{is_blank, is_letter, is_name_byte, EndsWord, EndsLine, IsSpelled, IsComment, IsGap, EndsGap, IsNextToken, StopsQuotes, offset_in_quotes, IsBadQuoted, IsBadToken, IsNextFault}
 use Rattle.decl_text.specs.Pieces.{IsPiece}
 use Rattle.decl_text.specs.declared.quotes.Piece.{Piece}
 use Rattle.decl_text.specs.declared.quotes.Piece.TheVariants.{Character, Close, Stop}
@@ -249,8 +249,8 @@ quoted_front bytes =
     ))
     (λ (stop : (code : Code) × StopsQuotes code end.stop). inr (
       stop.0,
-      place_in_quotes stop.0 (length (flat_map in_quotes end.characters)),
-      stop_is_bad stop.0 end.stop (34 ∷ bytes) (place_in_quotes stop.0 (length (flat_map in_quotes end.characters))) stop.1
+      offset_in_quotes stop.0 (length (flat_map in_quotes end.characters)),
+      stop_is_bad stop.0 end.stop (34 ∷ bytes) (offset_in_quotes stop.0 (length (flat_map in_quotes end.characters))) stop.1
           (record {
             characters = end.characters;
             stop = end.stop;
@@ -347,7 +347,7 @@ front (b ∷ bs) ends =
     (cases_eq b 10)) (cases_eq b 124)) (cases_eq b 61)) (arrow_cases b bs)) (cases_eq b 58)) (cases_eq b 44)) (cases_eq b 41)) (cases_eq b 40))
     (cases_eq b 34)) (test_cases (is_letter b))
 
--- from each place on, a token stands next, or a fault
+-- from each offset on, a token stands next, or a fault
 pub token_or_fault : (bytes : List ℕ) (from : ℕ)
     → ((token : Token) × IsNextToken bytes from token) ⊎ ((fault : MappingFault) × IsNextFault bytes from fault)
 token_or_fault bytes from =

@@ -15,7 +15,7 @@ use Rattle.decl_text.specs.declared.token.Kind.{Kind}
 use Rattle.decl_text.specs.declared.token.Kind.TheVariants.{Name, Quoted}
 use Rattle.decl_text.specs.declared.token.Token.{Token}
 use Rattle.decl_text.specs.Tests.{Lexeme, goes, Says, Pass}
-use Rattle.decl_text.specs.Declaration.{EndsLine, HasPlace, with_column, DeclarationPosition, begins, wants_name, wants_parenthesis, wants_column, wants_comma, wants_line_end, declared, declaration_tests, IsDeclaration}
+use Rattle.decl_text.specs.Declaration.{EndsLine, HasRoom, with_column, DeclarationPosition, begins, wants_name, wants_parenthesis, wants_column, wants_comma, wants_line_end, declared, declaration_tests, IsDeclaration}
 use Rattle.decl_text.proofs.PassLemmas.{IsLexeme, Pass-keeps, Pass-each, Goes-next, Test-next, Named-next}
 
 -- a text that the list doesn't have is none of its texts
@@ -37,11 +37,11 @@ names_more names name h is new = record {
 }
 
 module _ (rules : RuleSet) where
-  -- the name is one, and new, and there is place for a relation
+  -- the name is one, and new, and there is room for a relation
   pub record HasNewName (name : List ℕ) : Type 0 where
     pub is : IsName name
     pub new : IsNewRelationName rules name
-    pub place : HasPlace rules
+    pub place : HasRoom rules
 
   -- the columns so far
   pub record HasColumns (relation : Relation) : Type 0 where

@@ -10,7 +10,7 @@ use Rattle.std.proofs.lemmas.Str.{encodes-append}
 use Rattle.decl_text.specs.declared.fault.Code.{Code}
 use Rattle.decl_text.specs.declared.fault.Code.TheVariants.{X1, X3}
 use Rattle.decl_text.specs.Quotes.{in_quotes, Opens, IsQuoted}
-use Rattle.decl_text.specs.Tokens.{StopsQuotes, place_in_quotes, IsBadQuoted}
+use Rattle.decl_text.specs.Tokens.{StopsQuotes, offset_in_quotes, IsBadQuoted}
 use Rattle.decl_text.proofs.QuoteLemmas.{Ends, Ends-close, characters_once}
 
 -- so many bytes are the opening quote and these characters
@@ -62,7 +62,7 @@ Inside-close cs bytes len rest so_far e =
     let front : take (len + 1) bytes ≡ 34 ∷ (flat_map in_quotes cs ++ 34 ∷ []) = ap (take (len + 1)) all ∙ take_at (34 ∷ (flat_map in_quotes cs ++ 34 ∷ [])) rest (len + 1) size in
     (encode_utf8_all cs, (cs, record { characters_are = so_far.opens.characters_are; bytes_are = front }, refl))
 
-placed : (code : Code) (bytes : List ℕ) (n : ℕ) → StopsQuotes code bytes → (code ≡ X3 → ⊥) → place_in_quotes code n ≡ 1 + n
+placed : (code : Code) (bytes : List ℕ) (n : ℕ) → StopsQuotes code bytes → (code ≡ X3 → ⊥) → offset_in_quotes code n ≡ 1 + n
 placed X3 bytes n stops other = absurd (other refl)
 placed code bytes n stops other = refl
 

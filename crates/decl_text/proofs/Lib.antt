@@ -1,6 +1,7 @@
 pub mod QuoteLemmas
 pub mod InsideLemmas
 pub mod GapLemmas
+pub mod LetterLemmas
 pub mod ScanLemmas
 pub mod OnceLemmas
 pub mod NextLemmas

@@ -10,7 +10,7 @@ use Rattle.decl_text.specs.declared.token.Kind.TheVariants.{Name, Quoted, LeftPa
 use Rattle.decl_text.specs.declared.fault.Code.{Code}
 use Rattle.decl_text.specs.declared.fault.Code.TheVariants.{X1, X2, X3, X4}
 use Rattle.decl_text.specs.Quotes.{in_quotes, IsQuoted}
-use Rattle.decl_text.specs.Tokens.{is_blank, is_letter, is_name_byte, IsWord, EndsWord, EndsLine, IsSpelled, IsComment, IsGap, EndsGap, BeginsNothing, StopsQuotes, place_in_quotes, IsBadQuoted, IsBadToken}
+use Rattle.decl_text.specs.Tokens.{is_blank, is_letter, is_name_byte, IsWord, EndsWord, EndsLine, IsSpelled, IsComment, IsGap, EndsGap, BeginsNothing, StopsQuotes, offset_in_quotes, IsBadQuoted, IsBadToken}
 use Rattle.decl_text.proofs.QuoteLemmas.{Ends-close, Ends-stop, characters_once}
 
 -- the bytes do not begin with one of the run's
@@ -198,8 +198,8 @@ bad_quoted_once bytes k l m n p q =
     (Ends-stop k p.stop p.stops) (Ends-stop l q.stop q.stops) rests in
     let codes : k ≡ l = stop_once k l q.stop (subst (StopsQuotes k) once.1 p.stops) q.stops in (
       codes,
-      p.after_is ∙ ap (λ c. place_in_quotes c (length (flat_map in_quotes p.characters))) codes
-          ∙ ap (λ cs. place_in_quotes l (length (flat_map in_quotes cs))) once.0 ∙ sym q.after_is,
+      p.after_is ∙ ap (λ c. offset_in_quotes c (length (flat_map in_quotes p.characters))) codes
+          ∙ ap (λ cs. offset_in_quotes l (length (flat_map in_quotes cs))) once.0 ∙ sym q.after_is,
     )
 
 nothing_is_no_quote : (bytes rest : List ℕ) → BeginsNothing bytes → bytes ≡ 34 ∷ rest → ⊥

@@ -136,7 +136,7 @@ module _ {P : Type 0} (tests : P → Lexeme → Outcome P → Type 0) (decided :
       (subst (λ v. Comes tests bytes position v (stops a.code)) same f) g))
       (p ∙ ap (λ v. v.start) same ∙ sym q)
 
-  -- of two readings from one place, one goes on from where the other ends
+  -- of two readings from one offset, one goes on from where the other ends
   pub one_goes_on : (from : ℕ) (position : P) (tokens others : List Token) (to : ℕ) (last : P) (end : ℕ) (final : P)
       → Pass tests bytes from position tokens to last → Pass tests bytes from position others end final
       → Leads tests bytes to last end final ⊎ Leads tests bytes end final to last
@@ -166,7 +166,7 @@ module _ {P : Type 0} (tests : P → Lexeme → Outcome P → Type 0) (decided :
   final_leads from position to last final ([], e) = (sym e.0, sym e.1)
   final_leads from position to last final (t ∷ ts, h) = absurd (final h.1.1.lexeme (goes h.1.0) h.1.1.tested)
 
-  -- two readings up to final positions end at one place, at one position
+  -- two readings up to final positions end at one offset, at one position
   pub leads_once : (from : ℕ) (position : P) (to : ℕ) (last : P) (end : ℕ) (final : P) → IsFinal tests last → IsFinal tests final
       → Leads tests bytes from position to last → Leads tests bytes from position end final → (to ≡ end) × (last ≡ final)
   leads_once from position to last end final f g a b = elim (one_goes_on from position a.0 b.0 to last end final a.1 b.1) [

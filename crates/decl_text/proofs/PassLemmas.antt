@@ -1,15 +1,15 @@
 -- What holds after each token that passes holds at the end; and what a token that passes its tests meets.
-use Rattle.std.proofs.Common.{◌≡◌, ◌≢◌, ◌⊎◌, inl, inr, ℕ, ◌-◌, ◌≤◌, List, [], ◌∷◌, length, take, drop, codes, true, Contains, IsTrue, sym, ◌∙◌, subst, arith}
+use Rattle.std.proofs.Common.{◌≡◌, ◌≢◌, ◌⊎◌, inl, inr, ℕ, ◌-◌, ◌≤◌, List, [], ◌∷◌, length, take, drop, codes, Contains, IsTrue, sym, ◌∙◌, subst}
 use Rattle.std.proofs.lemmas.List.Elements.{All-cons, All-weaker}
-use Rattle.std.proofs.lemmas.Bool.Decides.{nat_tests}
 use Rattle.rule_core.specs.Names.{IsLetter, IsNameByte, IsName}
 use Rattle.decl_text.specs.declared.token.Kind.TheVariants.{Name}
 use Rattle.decl_text.specs.declared.token.Token.{Token}
 use Rattle.decl_text.specs.declared.fault.Code.{Code}
 use Rattle.decl_text.specs.declared.fault.Code.TheVariants.{U6}
-use Rattle.decl_text.specs.Tokens.{is_letter, is_name_byte, IsWord, IsNextToken}
+use Rattle.decl_text.specs.Tokens.{is_name_byte, IsWord, IsNextToken}
 use Rattle.decl_text.specs.Tests.{Lexeme, IsTextOf, Says, Outcome, goes, Goes, Stops, Comes, Pass}
 use Rattle.rule_core.proofs.ListLemmas.{Contains-nil, Contains-cons_cases}
+use Rattle.decl_text.proofs.LetterLemmas.{letter, name_byte}
 use Rattle.decl_text.proofs.OneOutcome.{says_once}
 use Rattle.decl_text.proofs.TestLemmas.{name_is_word}
 
@@ -48,11 +48,12 @@ module _ {P : Type 0} where
   Test-next (inl h) = h
   Test-next (inr h) = absurd cc
 
-letter : (b : ℕ) → is_letter b ≡ true → IsLetter b
-letter b h = grind (arith, nat_tests)
-
-name_byte : (b : ℕ) → is_name_byte b ≡ true → IsNameByte b
-name_byte b h = grind (arith, nat_tests)
+-- a token that passes the tests of a name is of that kind
+pub Word-next : {P Rest : Type 0} {wrong word : Code} {next : P} {lexeme : Lexeme}
+    → Passed (lexeme.kind ≡ Name) wrong next
+    (Passed (lexeme.text ≢ codes "exists") word next (Passed (length lexeme.text ≤ 64) U6 next Rest))
+    → (lexeme.kind ≡ Name) × Rest
+Word-next h = ((Test-next h).0, (Test-next (Test-next (Test-next h).1).1).1)
 
 letter_byte : (b : ℕ) → IsLetter b → IsNameByte b
 letter_byte b h = inl h

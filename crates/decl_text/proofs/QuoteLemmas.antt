@@ -54,7 +54,7 @@ plain_first c b bytes rest plain e small =
 clash : (c b : ℕ) (bytes rest : List ℕ) → is_escaped c ≡ false → b < 128 → is_escaped b ≡ true → b ∷ bytes ≡ encode_utf8 c ++ rest → ⊥
 clash c b bytes rest plain small escaped e = false≢true (sym (plain_first c b bytes rest plain e small) ∙ escaped)
 
--- a character in quotes ends in one place
+-- a character in quotes ends at one offset
 pub in_quotes_once : (c d : ℕ) (r t : List ℕ) → in_quotes c ++ r ≡ in_quotes d ++ t → (c ≡ d) × (r ≡ t)
 in_quotes_once c d r t e =
     ⊎_elim

@@ -2,16 +2,13 @@
 use Rattle.std.proofs.Common.{◌≡◌, ℕ, zero, suc, ◌+◌, ◌-◌, ◌≤◌, true, List, [], ◌∷◌, ◌++◌, length, take, drop, get_or, All, IsTrue, refl, sym, ap, ◌∙◌, subst, arith}
 use Rattle.std.proofs.lemmas.List.{take-append-drop, length-take-le, length-drop, length-append, drop-drop, drop_at, take_at}
 use Rattle.std.proofs.lemmas.List.Elements.{All-nil, All-tail}
-use Rattle.std.proofs.lemmas.Bool.Decides.{nat_tests}
 use Rattle.decl_text.specs.declared.token.Kind.{Kind}
 use Rattle.decl_text.specs.declared.token.Kind.TheVariants.{Quoted}
 use Rattle.decl_text.specs.declared.token.Token.{Token}
 use Rattle.decl_text.specs.Quotes.{IsQuoted}
 use Rattle.decl_text.specs.declared.fault.Code.{Code}
 use Rattle.decl_text.specs.Tokens.{is_blank, is_letter, is_name_byte, IsWord, EndsWord, IsSpelled, IsGap, IsNextToken, IsNextFault, IsBadToken, IsGapBetween}
-
-letter_is_name_byte : (b : ℕ) → is_letter b ≡ true → is_name_byte b ≡ true
-letter_is_name_byte b letter = grind (arith, nat_tests)
+use Rattle.decl_text.proofs.LetterLemmas.{letter_is_name_byte}
 
 -- the longest run of name bytes from a letter on is a word
 pub IsWord-take : (bytes : List ℕ) (n : ℕ) → is_letter (get_or bytes 0 0) ≡ true → All (λ c. IsTrue (is_name_byte c)) (take n bytes)
@@ -34,7 +31,7 @@ gap_between bytes from n fits is = record {
 pub no_gap : (rest : List ℕ) → IsGap [] rest
 no_gap rest = record { blanks = []; comment = []; bytes_are = refl; all_blank = All-nil (λ b. IsTrue (is_blank b)); one_comment = tt }
 
--- between a place and itself stands nothing
+-- between an offset and itself stands nothing
 pub no_gap_between : (bytes : List ℕ) (from : ℕ) → IsGapBetween bytes from from
 no_gap_between bytes from = record { gap = []; bytes_are = refl; to_is = omega arith; is = no_gap (drop from bytes) }
 

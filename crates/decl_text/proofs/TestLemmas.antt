@@ -1,8 +1,7 @@
 -- Steps of a line's reading, put together.
-use Rattle.std.proofs.Common.{◌≡◌, ◌≢◌, inl, inr, ℕ, ◌+◌, ◌-◌, ◌≤◌, ◌<◌, true, IsTrue, IsUtf8, List, [], ◌∷◌, ◌++◌, length, take, drop, refl, sym, ap, ◌∙◌, subst, arith}
+use Rattle.std.proofs.Common.{◌≡◌, ◌≢◌, inl, inr, ℕ, ◌+◌, ◌-◌, ◌≤◌, ◌<◌, IsTrue, IsUtf8, List, [], ◌∷◌, ◌++◌, length, take, drop, refl, sym, ap, ◌∙◌, subst, arith}
 use Rattle.std.proofs.lemmas.List.{length-append, length-drop}
 use Rattle.std.proofs.lemmas.List.Elements.{All-cons, All-weaker}
-use Rattle.std.proofs.lemmas.Bool.Decides.{nat_tests}
 use Rattle.std.proofs.lemmas.Str.{IsUtf8-from_ascii}
 use Rattle.std.proofs.lemmas.Str.Ascii.{IsAscii-from_all}
 use Rattle.decl_text.specs.declared.token.Kind.{Kind}
@@ -11,9 +10,10 @@ use Rattle.decl_text.specs.declared.token.Token.{Token}
 use Rattle.decl_text.specs.declared.fault.Code.{Code}
 use Rattle.decl_text.specs.declared.fault.MappingFault.{MappingFault}
 use Rattle.decl_text.specs.Quotes.{IsQuoted}
-use Rattle.decl_text.specs.Tokens.{is_letter, is_name_byte, IsWord, IsSpelled, IsNextToken, IsNextFault}
+use Rattle.decl_text.specs.Tokens.{is_name_byte, IsWord, IsSpelled, IsNextToken, IsNextFault}
 use Rattle.decl_text.specs.Tests.{Lexeme, IsTextOf, Outcome, goes, stops, Pass, Leads, Fails, IsFinal}
 use Rattle.decl_text.specs.Parts.{StandsNext, FailsAt}
+use Rattle.decl_text.proofs.LetterLemmas.{letter_is_name_byte, name_byte_is_ascii}
 use Rattle.decl_text.proofs.ScanLemmas.{token_bytes}
 
 module _ {P : Type 0} (tests : P → Lexeme → Outcome P → Type 0) (bytes : List ℕ) where
@@ -144,12 +144,6 @@ name_says bytes from token text next same e = record {
     text = subst (λ k. IsTextOf k (take (token.end - token.start) (drop token.start bytes)) text) (sym same) e;
   };
 }
-
-letter_is_name_byte : (b : ℕ) → is_letter b ≡ true → is_name_byte b ≡ true
-letter_is_name_byte b letter = grind (arith, nat_tests)
-
-name_byte_is_ascii : (b : ℕ) → is_name_byte b ≡ true → b < 128
-name_byte_is_ascii b name = grind (arith, nat_tests)
 
 -- a word is text
 pub IsWord-IsUtf8 : (word : List ℕ) → IsWord word → IsUtf8 word

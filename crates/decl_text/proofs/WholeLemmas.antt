@@ -33,7 +33,7 @@ fewer bytes from token next other =
     omega (arith, some)
 
 module _ (Good : Lexeme → Type 0) (bytes : List ℕ) where
-  -- each token that stands from this place on says something good
+  -- each token that stands from this offset on says something good
   abbrev pub SayGood : ℕ → Type 0
   SayGood from = (tokens : List Token) (to : ℕ) (token : Token) (lexeme : Lexeme)
       → Stand bytes from tokens to → Contains tokens token → Says bytes token lexeme → Good lexeme

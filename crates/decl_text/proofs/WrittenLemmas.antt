@@ -1,19 +1,19 @@
 -- What is written leads on wherever it stands: words, signs and texts in quotes, each behind blanks or none.
-use Rattle.std.proofs.Common.{◌≡◌, ℕ, ◌+◌, ◌≤◌, true, false, IsTrue, IsUtf8, All, List, [], ◌∷◌, ◌++◌, length, map, map-id, refl, sym, ap, ◌∙◌, subst, append_assoc, append-nil, arith, chars}
+use Rattle.std.proofs.Common.{◌≡◌, ℕ, ◌+◌, ◌≤◌, false, IsTrue, IsUtf8, All, List, [], ◌∷◌, ◌++◌, length, map, map-id, refl, sym, ap, ◌∙◌, subst, append_assoc, append-nil, arith, chars}
 use Rattle.std.specs.List.{flat_map}
 use Rattle.std.proofs.lemmas.List.{length-append, drop_at}
 use Rattle.std.proofs.lemmas.List.Elements.{All-weaker, All-tail}
-use Rattle.std.proofs.lemmas.Bool.Decides.{nat_tests}
 use Rattle.std.proofs.lemmas.Str.{chars-encodes, encodes-chars, scalars-chars}
-use Rattle.rule_core.specs.Names.{IsLetter, IsNameByte, IsName}
+use Rattle.rule_core.specs.Names.{IsNameByte, IsName}
 use Rattle.decl_text.specs.declared.token.Kind.{Kind}
 use Rattle.decl_text.specs.declared.token.Kind.TheVariants.{Name, Quoted}
 use Rattle.decl_text.specs.declared.token.Token.{Token}
 use Rattle.decl_text.specs.Quotes.{in_quotes, IsQuoted}
-use Rattle.decl_text.specs.Tokens.{is_blank, is_letter, is_name_byte, IsWord, EndsWord, IsSpelled, IsNextToken}
+use Rattle.decl_text.specs.Tokens.{is_blank, is_name_byte, IsWord, EndsWord, IsSpelled, IsNextToken}
 use Rattle.decl_text.specs.Tests.{Lexeme, Outcome, goes, Leads}
 use Rattle.decl_text.specs.Parts.{StandsNext}
 use Rattle.decl_text.specs.Canonical.{joined, quoted_text}
+use Rattle.decl_text.proofs.LetterLemmas.{letter_of, name_byte_of}
 use Rattle.decl_text.proofs.ScanLemmas.{token_bytes}
 use Rattle.decl_text.proofs.TestLemmas.{IsSign, sign_says, name_says, Leads-one, Leads-join}
 
@@ -24,12 +24,6 @@ AreBlanks gap = All (λ b. IsTrue (is_blank b)) gap
 -- any bytes may follow
 abbrev pub Always : List ℕ → Type 0
 Always rest = Unit {0}
-
-letter_of : (b : ℕ) → IsLetter b → is_letter b ≡ true
-letter_of b letter = grind (arith, nat_tests)
-
-name_byte_of : (b : ℕ) → IsNameByte b → is_name_byte b ≡ true
-name_byte_of b name = grind (arith, nat_tests)
 
 -- a name is a word
 pub word_of_name : (text : List ℕ) → IsName text → IsWord text

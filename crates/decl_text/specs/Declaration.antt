@@ -33,8 +33,8 @@ abbrev pub EndsLine : Lexeme → Type 0
 EndsLine token = (token.kind ≡ LineEnd) ⊎ (token.kind ≡ Finish)
 
 -- there may be one more relation
-abbrev pub HasPlace : RuleSet → Type 0
-HasPlace rules = length rules.sources + length rules.targets < most_relations
+abbrev pub HasRoom : RuleSet → Type 0
+HasRoom rules = length rules.sources + length rules.targets < most_relations
 
 -- the relation with one more column, as the last
 abbrev pub with_column : Relation → List ℕ → Relation
@@ -59,7 +59,7 @@ declaration_tests rules begins token =
 declaration_tests rules (wants_name place) token =
     Named X5 X5 token
     (Test (IsNewRelationName rules token.text) U5
-    (Test (HasPlace rules) U6
+    (Test (HasRoom rules) U6
     (Goes (wants_parenthesis place token.text))))
 declaration_tests rules (wants_parenthesis place name) token =
     Test (token.kind ≡ LeftParen) X5
@@ -78,10 +78,10 @@ declaration_tests rules (wants_line_end place relation) token =
     (Goes (declared place relation))
 declaration_tests rules (declared place relation) token = λ outcome. ⊥
 
--- from the first place up to the second, the bytes are a line that declares this relation
+-- from the first offset up to the second, the bytes are a line that declares this relation
 abbrev pub IsDeclaration : List ℕ → RuleSet → ℕ → Place → Relation → ℕ → Type 0
 IsDeclaration bytes rules from place relation to = Leads (declaration_tests rules) bytes from begins to (declared place relation)
 
--- from this place on, this is the first fault of the line
+-- from this offset on, this is the first fault of the line
 abbrev pub FailsDeclaration : List ℕ → RuleSet → ℕ → MappingFault → Type 0
 FailsDeclaration bytes rules from fault = Fails (declaration_tests rules) bytes from begins fault

@@ -10,7 +10,7 @@ use Rattle.decl_text.specs.declared.fault.MappingFault.{MappingFault}
 use Rattle.decl_text.specs.Tokens.{IsNextToken, IsNextFault}
 use Rattle.decl_text.specs.Tests.{Lexeme, Says}
 
--- from this place on, the token stands next, and says this
+-- from this offset on, the token stands next, and says this
 pub record StandsNext (bytes : List ℕ) (from : ℕ) (token : Token) (lexeme : Lexeme) : Type 0 where
   pub next : IsNextToken bytes from token
   pub says : Says bytes token lexeme

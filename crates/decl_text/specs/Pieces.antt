@@ -1,4 +1,4 @@
--- What stands at a place in quotes. No public clause cites this module.
+-- What stands in quotes from an offset on. No public clause cites this module.
 use Rattle.std.specs.Prelude.{◌≡◌, ◌==◌, ◌||◌, Bool, IsTrue, ⊤, ℕ, [], List, ◌∷◌, ◌++◌}
 use Rattle.std.specs.Char.{IsScalar}
 use Rattle.decl_text.specs.declared.quotes.Piece.{Piece}

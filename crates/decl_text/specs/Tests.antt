@@ -74,7 +74,7 @@ module _ {P : Type 0} (tests : Tests P) (bytes : List ℕ) where
     pub says : Says bytes token lexeme
     pub tested : tests position lexeme outcome
 
-  -- from this place on, these tokens stand in the bytes, each where the one before ends, up to that place;
+  -- from this offset on, these tokens stand in the bytes, each where the one before ends, up to that offset;
   -- each passes its tests, and together they lead from the one position to the other
   abbrev pub Pass : ℕ → P → List Token → ℕ → P → Type 0
   Pass from position [] to last = (to ≡ from) × (last ≡ position)

@@ -70,7 +70,7 @@ abbrev pub EndsGap : List ℕ → Type 0
 EndsGap [] = ⊤
 EndsGap (b ∷ bs) = ¬ (IsTrue (is_blank b)) × (b ≢ 35)
 
--- from this place on, the token is the next after blanks and comments
+-- from this offset on, the token is the next after blanks and comments
 pub record IsNextToken (bytes : List ℕ) (from : ℕ) (token : Token) : Type 0 where
   pub gap : List ℕ
   pub spelled : List ℕ
@@ -110,9 +110,9 @@ StopsQuotes X4 bytes = IsBadEscape bytes
 StopsQuotes other bytes = ⊥
 
 -- how many bytes after the opening quote the fault is placed, where so many stand before what stops the text
-abbrev pub place_in_quotes : Code → ℕ → ℕ
-place_in_quotes X3 before = 0
-place_in_quotes other before = 1 + before
+abbrev pub offset_in_quotes : Code → ℕ → ℕ
+offset_in_quotes X3 before = 0
+offset_in_quotes other before = 1 + before
 
 -- characters in quotes, and then what stops them: the fault is placed so many bytes after the opening quote
 pub record IsBadQuoted (bytes : List ℕ) (code : Code) (after : ℕ) : Type 0 where
@@ -120,14 +120,14 @@ pub record IsBadQuoted (bytes : List ℕ) (code : Code) (after : ℕ) : Type 0 w
   pub stop : List ℕ
   pub opens : Opens characters bytes stop
   pub stops : StopsQuotes code stop
-  pub after_is : after ≡ place_in_quotes code (length (flat_map in_quotes characters))
+  pub after_is : after ≡ offset_in_quotes code (length (flat_map in_quotes characters))
 
 -- the bytes begin with no token, by this fault, which is placed so many bytes after their beginning
 abbrev pub IsBadToken : List ℕ → Code → ℕ → Type 0
 IsBadToken bytes X1 after = (after ≡ 0) × BeginsNothing bytes
 IsBadToken bytes code after = IsBadQuoted bytes code after
 
--- from this place on, after blanks and comments, the next bytes are a token with this fault
+-- from this offset on, after blanks and comments, the next bytes are a token with this fault
 pub record IsNextFault (bytes : List ℕ) (from : ℕ) (fault : MappingFault) : Type 0 where
   pub gap : List ℕ
   pub rest : List ℕ
@@ -137,17 +137,17 @@ pub record IsNextFault (bytes : List ℕ) (from : ℕ) (fault : MappingFault) : 
   pub place_is : fault.place ≡ (from + length gap) + after
   pub bad : IsBadToken rest fault.code after
 
--- exactly at this place the token begins, with neither a blank nor a comment before it
+-- exactly at this offset the token begins, with neither a blank nor a comment before it
 pub record IsTokenAt (bytes : List ℕ) (at : ℕ) (token : Token) : Type 0 where
   pub next : IsNextToken bytes at token
   pub start_is : token.start ≡ at
 
--- exactly at this place no token begins: a blank or a comment does, or a token with this fault
+-- exactly at this offset no token begins: a blank or a comment does, or a token with this fault
 abbrev pub IsFaultAt : List ℕ → ℕ → MappingFault → Type 0
 IsFaultAt bytes at fault =
     (¬ EndsGap (drop at bytes) × (fault ≡ record { code = X1; place = at })) ⊎ (EndsGap (drop at bytes) × IsNextFault bytes at fault)
 
--- from the first place up to the second stand blanks, and perhaps a comment
+-- from the first offset up to the second stand blanks, and perhaps a comment
 pub record IsGapBetween (bytes : List ℕ) (from to : ℕ) : Type 0 where
   pub gap : List ℕ
   pub bytes_are : drop from bytes ≡ gap ++ drop to bytes

@@ -7,7 +7,7 @@ ghost use Rattle.rule_core.specs.Adding.{with_relation};
 ghost use Rattle.rule_core.specs.Limits.{most_columns};
 ghost use Rattle.rule_core.specs.Mapping.{RuleSet};
 ghost use Rattle.rule_core.specs.Validity.{IsValid};
-ghost use Rattle.decl_text.specs.Declaration.{begins, wants_name, wants_parenthesis, wants_column, wants_comma, wants_line_end, declared, declaration_tests, HasPlace, IsDeclaration, FailsDeclaration};
+ghost use Rattle.decl_text.specs.Declaration.{begins, wants_name, wants_parenthesis, wants_column, wants_comma, wants_line_end, declared, declaration_tests, HasRoom, IsDeclaration, FailsDeclaration};
 ghost use Rattle.decl_text.specs.Tests.{Leads, Fails, IfFault};
 
 use crate::laws::what_is_declared_fits;
@@ -18,7 +18,7 @@ use rule_core::{Place, Relation, Rules};
 use std::alloc::Global;
 use term_core::{Items, Text};
 
-/// A line that begins with `source` or `target`: the side, the relation, and the place after the line. The relation
+/// A line that begins with `source` or `target`: the side, the relation, and the offset after the line. The relation
 /// may be added to the rules. A fault is the first of the line, at its byte.
 pub fn read_declaration(
     alloc: Global,
@@ -47,7 +47,7 @@ pub fn read_declaration(
     Ok((place, relation, end))
 }
 
-// The side that the line's first word names, and the place after the word.
+// The side that the line's first word names, and the offset after the word.
 fn read_side(bytes: &[u8], from: usize) -> Result<(Place, usize), ReadError>
     requires { from ≤ length bytes.now }
     ensures side { (rules : RuleSet) → IfOk result
@@ -84,21 +84,21 @@ fn read_relation_name(
     if !rules.is_new_relation_name(&name.text) {
         return Err(fault_at(Code::U5, &name.token));
     }
-    if !has_place(rules) {
+    if !has_room(rules) {
         return Err(fault_at(Code::U6, &name.token));
     }
     Ok(name)
 }
 
 // Whether there may be one more relation.
-fn has_place(rules: &Rules) -> bool
-    ensures { IsTrue result ↔ HasPlace rules.now }
+fn has_room(rules: &Rules) -> bool
+    ensures { IsTrue result ↔ HasRoom rules.now }
 {
     rules.is_kept();
     rules.sources().len() + rules.targets().len() < MOST_RELATIONS
 }
 
-// The columns after an opening parenthesis, and the place after the closing one.
+// The columns after an opening parenthesis, and the offset after the closing one.
 fn read_columns(alloc: Global, bytes: &[u8], from: usize) -> Result<(Items<Text>, usize), ReadError>
     requires { from ≤ length bytes.now }
     ensures columns { (rules : RuleSet) (place : PlaceValue) (name : List ℕ) → IfOk result
@@ -159,7 +159,7 @@ fn is_among(texts: &[Text], text: &Text) -> bool
     texts.contains(text)
 }
 
-// The place after the end of the line.
+// The offset after the end of the line.
 fn read_line_end(bytes: &[u8], from: usize) -> Result<usize, ReadError>
     requires { from ≤ length bytes.now }
     ensures end { (rules : RuleSet) (place : PlaceValue) (relation : RelationValue) → IfOk result

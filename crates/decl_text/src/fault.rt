@@ -37,12 +37,12 @@ pub enum Code {
     U6,
 }
 
-/// A fault of a mapping text, and the place of its byte.
+/// A fault of a mapping text, and the offset of its byte.
 #[derive(Clone, Copy, Debug, PartialEq, Eq)]
 pub struct MappingFault {
     /// The fault's number.
     pub code: Code,
-    /// The place of the byte at fault.
+    /// The offset of the byte at fault.
     pub place: usize,
 }
 

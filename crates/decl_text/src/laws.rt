@@ -1,22 +1,25 @@
-//! Laws of the definitions: what stands next is one thing, and texts in quotes and declarations are read back.
+//! Laws of the definitions: what stands next is one thing, names are words, and texts in quotes and declarations are
+//! read back.
 
-ghost use Rattle.std.specs.Prelude.{◌≡◌, ◌⊎◌, ◌+◌, ℕ, List, ◌++◌, length, Contains};
+ghost use Rattle.std.specs.Prelude.{◌≡◌, ◌≢◌, ◌⊎◌, ◌↔◌, ◌+◌, ℕ, ◌≤◌, List, ◌++◌, codes, length, Contains};
 ghost use Rattle.rule_core.specs.declared.rules.Place.{Place as PlaceValue};
 ghost use Rattle.rule_core.specs.declared.rules.Relation.{Relation as RelationValue};
 ghost use Rattle.rule_core.specs.Mapping.{RuleSet};
 ghost use Rattle.rule_core.specs.Adding.{with_relation};
+ghost use Rattle.rule_core.specs.Limits.{longest_name};
+ghost use Rattle.rule_core.specs.Names.{IsName};
 ghost use Rattle.rule_core.specs.Validity.{IsValid};
 ghost use Rattle.decl_text.specs.declared.token.Kind.TheVariants as kinds;
 ghost use Rattle.decl_text.specs.declared.token.Token.{Token as TokenValue};
 ghost use Rattle.decl_text.specs.declared.fault.MappingFault.{MappingFault as FaultValue};
 ghost use Rattle.decl_text.specs.Quotes.{IsQuoted};
-ghost use Rattle.decl_text.specs.Tokens.{IsNextToken, IsNextFault, IsTokenAt, IsFaultAt};
+ghost use Rattle.decl_text.specs.Tokens.{IsWord, IsNextToken, IsNextFault, IsTokenAt, IsFaultAt};
 ghost use Rattle.decl_text.specs.Tests.{IsDecided, Says, Pass};
 ghost use Rattle.decl_text.specs.Declaration.{begins, declared, declaration_tests, IsDeclaration, FailsDeclaration};
 ghost use Rattle.decl_text.specs.Canonical.{declaration_text};
 ghost use Rattle.decl_text.specs.Lexemes.{declaration_lexemes, SayLine};
 
-/// From a place on, one token stands next, or one fault, and not both: so what `next_token` answers is all
+/// From an offset on, one token stands next, or one fault, and not both: so what `next_token` answers is all
 /// that the definitions allow.
 pub fn one_token_or_one_fault_stands_next()
     ensures token { (bytes : List ℕ) (from : ℕ) (a b : TokenValue)
@@ -29,7 +32,7 @@ pub fn one_token_or_one_fault_stands_next()
         → ((token : TokenValue) × IsNextToken bytes from token) ⊎ ((fault : FaultValue) × IsNextFault bytes from fault) }
 {}
 
-/// Exactly at a place one token begins, or none does and one fault stands there: so what `token_at` answers is all
+/// Exactly at an offset one token begins, or none does and one fault stands there: so what `token_at` answers is all
 /// that the definitions allow.
 pub fn a_place_begins_one_token_or_has_one_fault()
     ensures token { (bytes : List ℕ) (at : ℕ) (a b : TokenValue)
@@ -40,6 +43,13 @@ pub fn a_place_begins_one_token_or_has_one_fault()
         → IsTokenAt bytes at a → ¬ (IsFaultAt bytes at b) }
     ensures either { (bytes : List ℕ) (at : ℕ)
         → ((token : TokenValue) × IsTokenAt bytes at token) ⊎ ((fault : FaultValue) × IsFaultAt bytes at fault) }
+{}
+
+/// A name of a mapping is a word of its text that is no longer than the longest, and not the word `exists`: letters and
+/// bytes of names are the same in both.
+pub fn names_are_short_words()
+    ensures { (text : List ℕ)
+        → IsName text ↔ (IsWord text × (length text ≤ longest_name) × (text ≢ codes "exists")) }
 {}
 
 /// A text in quotes is a token wherever it stands, it is of one text, and a text stands in quotes in
@@ -57,7 +67,7 @@ pub fn quoted_texts_are_read_back()
         → IsQuoted quoted text → IsQuoted other text → quoted ≡ other }
 {}
 
-/// From a place on, one declaration stands, and it ends at one place; or the line has one first fault;
+/// From an offset on, one declaration stands, and it ends at one offset; or the line has one first fault;
 /// and not both.
 pub fn a_declaration_is_one()
     ensures decided { (rules : RuleSet) → IsDecided (declaration_tests rules) }

@@ -1,4 +1,4 @@
-//! The tokens of a mapping text, each with its place, or the first fault; and texts in quotes, both ways.
+//! The tokens of a mapping text, each with its offset, or the first fault; and texts in quotes, both ways.
 #![tactic(auto)]
 
 mod declaration;

@@ -34,7 +34,7 @@ pub fn fault_at(code: Code, token: &Token) -> ReadError
     })
 }
 
-/// The token that stands next from a place on, or its fault.
+/// The token that stands next from an offset on, or its fault.
 pub fn read_token(bytes: &[u8], from: usize) -> Result<Token, ReadError>
     requires { from ≤ length bytes.now }
     ensures token { IfOk result (λ token. IsNextToken bytes.now from token) }
@@ -46,7 +46,7 @@ pub fn read_token(bytes: &[u8], from: usize) -> Result<Token, ReadError>
     Ok(next_token(bytes, from)?)
 }
 
-/// The place after the next token, which has to be this sign; `wrong` is the fault of one of another kind.
+/// The offset after the next token, which has to be this sign; `wrong` is the fault of one of another kind.
 pub fn read_sign(bytes: &[u8], from: usize, sign: Kind, wrong: Code) -> Result<usize, ReadError>
     requires place { from ≤ length bytes.now }
     requires name { sign ≢ kinds.Name }

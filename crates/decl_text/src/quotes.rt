@@ -12,7 +12,7 @@ use crate::{Code, Token};
 use std::alloc::Global;
 use term_core::{Memory, Text};
 
-/// What stands at a place in quotes.
+/// What stands in quotes from an offset on.
 #[derive(Clone, Copy)]
 pub(crate) enum Piece {
     Character(char),

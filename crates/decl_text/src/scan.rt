@@ -10,6 +10,7 @@ ghost use Rattle.decl_text.specs.Pieces.{EndsBlanks};
 
 use crate::quotes::{Piece, piece_at, quoted_len};
 use crate::{Code, Kind, MappingFault, Token};
+use rule_core::{is_letter, is_name_byte};
 
 // A token at the front of bytes, and how many of them it has.
 #[derive(Clone, Copy)]
@@ -25,7 +26,7 @@ struct Bad {
     after: usize,
 }
 
-/// The token that stands next from a place on, after blanks and comments, or its fault.
+/// The token that stands next from an offset on, after blanks and comments, or its fault.
 pub fn next_token(bytes: &[u8], from: usize) -> Result<Token, MappingFault>
     requires { from ≤ length bytes.now }
     ensures token { IfOk result (λ token. IsNextToken bytes.now from token) }
@@ -35,7 +36,7 @@ pub fn next_token(bytes: &[u8], from: usize) -> Result<Token, MappingFault>
     token_from(bytes, start)
 }
 
-/// The token that begins exactly at a place, with neither a blank nor a comment before it. Where none
+/// The token that begins exactly at an offset, with neither a blank nor a comment before it. Where none
 /// begins there, the fault is the token's own, or that of a byte that begins no token.
 pub fn token_at(bytes: &[u8], at: usize) -> Result<Token, MappingFault>
     requires { at ≤ length bytes.now }
@@ -53,7 +54,7 @@ pub fn token_at(bytes: &[u8], at: usize) -> Result<Token, MappingFault>
     token_from(bytes, at)
 }
 
-// The token that begins at a place behind blanks and a comment, or its fault.
+// The token that begins at an offset behind blanks and a comment, or its fault.
 fn token_from(bytes: &[u8], start: usize) -> Result<Token, MappingFault>
     requires within { start ≤ length bytes.now }
     requires over { EndsGap (drop start bytes.now) }
@@ -143,12 +144,6 @@ fn is_blank(byte: u8) -> bool
     byte == b' ' || byte == b'\t' || byte == b'\r'
 }
 
-fn is_name_byte(byte: u8) -> bool
-    ensures { result ≡ is_name_byte byte }
-{
-    byte.is_ascii_alphanumeric() || byte == b'_'
-}
-
 // The token at the front of the bytes, or its fault.
 fn front_of(bytes: &[u8]) -> Result<Front, Bad>
     requires { EndsGap bytes.now }
@@ -164,7 +159,7 @@ fn front_of(bytes: &[u8]) -> Result<Front, Bad>
     if first == b'"' {
         return quoted_front(bytes);
     }
-    if first.is_ascii_alphabetic() {
+    if is_letter(first) {
         return Ok(Front {
             kind: Kind::Name,
             len: name_len(bytes),

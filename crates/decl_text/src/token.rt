@@ -32,8 +32,8 @@ pub enum Kind {
 pub struct Token {
     /// What it is.
     pub kind: Kind,
-    /// The place of its first byte.
+    /// The offset of its first byte.
     pub start: usize,
-    /// The place after its last byte.
+    /// The offset after its last byte.
     pub end: usize,
 }

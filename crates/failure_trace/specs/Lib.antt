@@ -4,5 +4,7 @@ pub mod Equating
 pub mod Trace
 pub mod TraceRun
 pub mod JournalRun
+pub mod Projection
 pub mod TraceText
 pub mod Printed
+pub mod Projected

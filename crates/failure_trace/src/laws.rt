@@ -11,6 +11,7 @@ ghost use Rattle.failure_trace.specs.declared.why.Why.{Why as WhyValue};
 ghost use Rattle.failure_trace.specs.TraceText.{IsTrace, Fails};
 ghost use Rattle.failure_trace.specs.Printed.{trace_text, IsWritable};
 ghost use Rattle.failure_trace.specs.TraceRun.{IsAccepted, IsRefused};
+ghost use Rattle.failure_trace.specs.Projection.{StepsAreTraced, StepsStayElsewhere, ClashesAreTraced, EqualitiesAreAllowed, ClashesAreAllowed};
 
 /// A trace is accepted, or it is refused by one part of the table at one step, and not both: so a checker has one
 /// answer for each trace.
@@ -38,4 +39,18 @@ pub fn a_text_is_one_trace_or_has_one_first_fault()
 /// What is printed of a writable trace is this trace: reading it gives an equal one.
 pub fn printed_traces_are_read_back()
     ensures { (trace : TraceValue) → IsWritable trace → IsTrace (trace_text trace) trace }
+{}
+
+/// A journal tells what a trace does at each instant: at an instant of its span, an allowed step is an allowed equality of
+/// a trace on the snapshot there, where constants are told by other names and unknowns by numbers in their order; at any
+/// other instant the snapshot stays. An allowed clash is one at each instant of its span.
+pub fn a_journal_step_is_a_trace_step_at_its_instants()
+    ensures steps { StepsAreTraced ConstId (List ℕ) }
+    ensures text_steps { StepsAreTraced (List ℕ) (List ℕ) }
+    ensures elsewhere { StepsStayElsewhere ConstId }
+    ensures text_elsewhere { StepsStayElsewhere (List ℕ) }
+    ensures clashes { ClashesAreTraced ConstId (List ℕ) }
+    ensures text_clashes { ClashesAreTraced (List ℕ) (List ℕ) }
+    ensures allowed { EqualitiesAreAllowed }
+    ensures allowed_clashes { ClashesAreAllowed }
 {}

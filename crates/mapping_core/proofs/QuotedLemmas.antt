@@ -1,4 +1,4 @@
--- What stands in quotes from a place on: in the tokens up to a later place, or from there on.
+-- What stands in quotes from an offset on: in the tokens up to a later offset, or from there on.
 use Rattle.std.proofs.Common.{◌≡◌, ◌≢◌, ◌⊎◌, inl, inr, ℕ, ◌<◌, ◌≤◌, List, [], ◌∷◌, ◌++◌, length, take, drop, ◌-◌, IsUtf8, Contains, refl, sym, ap, ◌∙◌, subst, arith, rules}
 use Rattle.std.proofs.lemmas.List.{length-append, length-drop}
 use Rattle.rule_core.proofs.ListLemmas.{Contains-head, Contains-cons, Contains-nil, Contains-cons_cases}
@@ -62,7 +62,7 @@ spelled_or_finish Bar spelled rest w = inl (let e = ap length w in omega arith)
 spelled_or_finish LineEnd spelled rest w = inl (let e = ap length w in omega arith)
 spelled_or_finish Finish spelled rest w = inr refl
 
--- a token ends after the place where it was looked for, or is the end of the text
+-- a token ends after the offset where it was looked for, or is the end of the text
 pub token_forward : (bytes : List ℕ) (from : ℕ) (token : Token) → IsNextToken bytes from token → token.kind ≢ Finish → from < token.end
 token_forward bytes from token next other = elim (spelled_or_finish token.kind next.spelled next.rest next.whole) [
   | inl some ↦ let a = next.start_is in let b = next.end_is in omega (arith, some)
@@ -92,7 +92,7 @@ finish_again bytes from token later next kind again =
       | inr last ↦ last
     ]
 
--- only the end of the text stands from this place on
+-- only the end of the text stands from this offset on
 abbrev pub AtEnd : List ℕ → ℕ → Type 0
 AtEnd bytes from = (token : Token) → IsNextToken bytes from token → token.kind ≡ Finish
 
@@ -118,7 +118,7 @@ pub quoted_no_finish : (bytes : List ℕ) (from : ℕ) (text : List ℕ) → AtE
 quoted_no_finish bytes from text over (tokens, to, found, stand, member, says) =
     quoted_is_no_finish (says.kind ∙ last_tokens bytes tokens from to found over stand member)
 
--- what stands in quotes from a place on stands in the tokens up to a later place, or from there on
+-- what stands in quotes from an offset on stands in the tokens up to a later offset, or from there on
 pub quoted_split : (bytes : List ℕ) (from : ℕ) (tokens : List Token) (to : ℕ) (text : List ℕ) → Stand bytes from tokens to
     → IsQuotedFrom bytes from text → IsQuotedAmong bytes tokens text ⊎ IsQuotedFrom bytes to text
 quoted_split bytes from [] to text stand q = inr (subst (λ n. IsQuotedFrom bytes n text) (sym stand) q)

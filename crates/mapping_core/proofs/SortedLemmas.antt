@@ -102,7 +102,7 @@ add_text text (first ∷ rest) order = elim (compared text first) [
 ]
 
 module _ (bytes : List ℕ) where
-  -- all texts in quotes, gathered up to a place behind which there is none
+  -- all texts in quotes, gathered up to an offset behind which there is none
   record GathersAll (texts : List (List ℕ)) : Type 0 where
     place : ℕ
     gathers : Gathers bytes texts place

@@ -6,7 +6,7 @@ use Rattle.rule_core.specs.Mapping.{RuleSet}
 use Rattle.rule_text.specs.declared.rule.Rule.TheVariants.{Tgd, Egd, Query}
 use Rattle.rule_text.specs.Constants.{HasConstant}
 
--- what a mapping is: its relations, rules and queries, and the texts of its constants, each told by its place
+-- what a mapping is: its relations, rules and queries, and the texts of its constants, each told by its number
 pub record Meaning : Type 0 where
   pub rules : RuleSet
   pub pool : List (List ℕ)

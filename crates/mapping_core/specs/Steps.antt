@@ -16,16 +16,16 @@ use Rattle.mapping_core.specs.Reading.{at_line, no_rules, mapping_tests, BeginsR
 abbrev pub SaysQuoted : List ℕ → Token → List ℕ → Type 0
 SaysQuoted bytes token text = Says bytes token (record { kind = Quoted; text = text })
 
--- the texts are those that stand in quotes before this place, and there are no more of them than bytes there
-pub record Gathers (bytes : List ℕ) (texts : List (List ℕ)) (place : ℕ) : Type 0 where
-  pub within : place ≤ length bytes
-  pub few : length texts ≤ place
-  pub quoted : (text : List ℕ) → IsQuotedFrom bytes 0 text ↔ (Contains texts text ⊎ IsQuotedFrom bytes place text)
+-- the texts are those that stand in quotes before this offset, and there are no more of them than bytes there
+pub record Gathers (bytes : List ℕ) (texts : List (List ℕ)) (offset : ℕ) : Type 0 where
+  pub within : offset ≤ length bytes
+  pub few : length texts ≤ offset
+  pub quoted : (text : List ℕ) → IsQuotedFrom bytes 0 text ↔ (Contains texts text ⊎ IsQuotedFrom bytes offset text)
 
--- up to this place the text has these rules, and what stands in quotes before the place are the texts of their constants
-pub record ReadsTo (bytes : List ℕ) (pool : List (List ℕ)) (place : ℕ) (rules : RuleSet) : Type 0 where
-  pub lines : Leads (mapping_tests pool) bytes 0 (at_line no_rules) place (at_line rules)
-  pub quoted : (text : List ℕ) → IsQuotedFrom bytes 0 text ↔ (IsConstantText rules pool text ⊎ IsQuotedFrom bytes place text)
+-- up to this offset the text has these rules, and what stands in quotes before the offset are the texts of their constants
+pub record ReadsTo (bytes : List ℕ) (pool : List (List ℕ)) (offset : ℕ) (rules : RuleSet) : Type 0 where
+  pub lines : Leads (mapping_tests pool) bytes 0 (at_line no_rules) offset (at_line rules)
+  pub quoted : (text : List ℕ) → IsQuotedFrom bytes 0 text ↔ (IsConstantText rules pool text ⊎ IsQuotedFrom bytes offset text)
   pub short : (text : List ℕ) → IsConstantText rules pool text → length text ≤ longest_constant
   pub there : (constant : ConstId) → AnyHasConstant rules constant → constant.0 < length pool
 

@@ -92,7 +92,7 @@ fn read_lines(alloc: Global, bytes: &[u8], pool: &Pool) -> Result<Rules, ReadErr
     }
 }
 
-// The place after a line that is not empty, which begins with the token. What it says is added to the rules.
+// The offset after a line that is not empty, which begins with the token. What it says is added to the rules.
 fn read_line(
     alloc: Global,
     bytes: &[u8],
@@ -134,7 +134,7 @@ fn begins_rule(bytes: &[u8], token: &Token) -> bool
         || is_word(bytes, token, b"query")
 }
 
-// The place after a line that states a rule. The rule is added.
+// The offset after a line that states a rule. The rule is added.
 fn read_rule_line(
     alloc: Global,
     bytes: &[u8],
@@ -170,7 +170,7 @@ fn add_rule(rules: &mut Rules, rule: Rule) -> Result<(), Memory>
     }
 }
 
-// The place after a line that declares a relation. The relation is added.
+// The offset after a line that declares a relation. The relation is added.
 fn read_declaration_line(
     alloc: Global,
     bytes: &[u8],

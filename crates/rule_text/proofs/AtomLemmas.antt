@@ -36,7 +36,7 @@ Grows other = Unit {0}
 abbrev pub said_of : List (List ℕ) → ℕ → List Atom → Said
 said_of vars k atoms = record { vars = take k vars; atoms = atoms }
 
--- what is meant by the places in a rule: valid relations, names for variables, texts for constants
+-- what is meant by the numbers in a rule: valid relations, names for variables, texts for constants
 pub record Names (rules : RuleSet) (pool vars : List (List ℕ)) : Type 0 where
   pub relations : AreRelations rules.sources rules.targets
   pub variables : AreVariables vars
@@ -114,7 +114,7 @@ in_names : (Growing : Type 0) (names k v : ℕ) → InTurn Growing names k v →
 in_names Growing names k v (inl known) = omega (arith, known.0, known.1)
 in_names Growing names k v (inr new) = omega (arith, new.1, new.2)
 
--- what a place of the pool says
+-- what a number of the pool says
 text_found : (pool : List (List ℕ)) (c : ConstId) → IsTextual pool IsShortText (Const c)
     → (c.0 < length pool) × IsShortText (text_at pool c.0)
 text_found pool c textual =

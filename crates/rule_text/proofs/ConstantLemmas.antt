@@ -1,5 +1,5 @@
 -- The texts in quotes of a rule's line are the texts of its constants.
-use Rattle.std.proofs.Common.{◌≡◌, ◌≢◌, ◌⊎◌, ◌↔◌, inl, inr, ℕ, ◌≤◌, List, [], ◌∷◌, ◌++◌, length, append_assoc, codes, Some, Contains, refl, sym, ap, ◌∙◌, subst}
+use Rattle.std.proofs.Common.{◌≡◌, ◌≢◌, ◌⊎◌, ◌↔◌, inl, inr, ℕ, ◌≤◌, List, [], ◌∷◌, ◌++◌, length, append_assoc, Some, Contains, refl, sym, ap, ◌∙◌, subst}
 use Rattle.std.specs.Prelude.{slice_get, flat_map}
 use Rattle.std.proofs.lemmas.List.{append-nil}
 use Rattle.std.proofs.lemmas.Grind.{flat_map-append}
@@ -15,11 +15,11 @@ use Rattle.decl_text.specs.declared.token.Kind.{Kind}
 use Rattle.decl_text.specs.declared.token.Kind.TheVariants.{Name, Quoted, LeftParen, Colon, Equals}
 use Rattle.decl_text.specs.declared.token.Token.{Token}
 use Rattle.decl_text.specs.declared.fault.Code.{Code}
-use Rattle.decl_text.specs.declared.fault.Code.TheVariants.{X7, X8, U6}
+use Rattle.decl_text.specs.declared.fault.Code.TheVariants.{X7, X8}
 use Rattle.decl_text.specs.Tests.{Lexeme, Says, goes, Goes, Pass}
 use Rattle.decl_text.proofs.OneOutcome.{says_once}
 use Rattle.decl_text.proofs.FitLemmas.{name_unquoted, end_unquoted}
-use Rattle.decl_text.proofs.PassLemmas.{Passed, Goes-next, Test-next}
+use Rattle.decl_text.proofs.PassLemmas.{Passed, Goes-next, Test-next, Word-next}
 use Rattle.rule_text.specs.declared.rule.Rule.{Rule}
 use Rattle.rule_text.specs.declared.rule.Rule.TheVariants.{Tgd, Egd, Query}
 use Rattle.rule_text.specs.Constants.{constants_in, constants_among, constants_of, HasConstant, NeedsText, IsQuotedAmong}
@@ -84,12 +84,6 @@ said_before (wants_right name said left) = constants_among said.atoms
 said_before (wants_line_end rule) = constants_of rule
 said_before (stated rule) = constants_of rule
 
-named : {P Rest : Type 0} {wrong word : Code} {next : P} {lexeme : Lexeme}
-    → Passed (lexeme.kind ≡ Name) wrong next
-    (Passed (lexeme.text ≢ codes "exists") word next (Passed (length lexeme.text ≤ 64) U6 next Rest))
-    → (lexeme.kind ≡ Name) × Rest
-named h = ((Test-next h).0, (Test-next (Test-next (Test-next h).1).1).1)
-
 -- the kind is another than that of a text in quotes
 unquoted : (kind other : Kind) → kind ≡ other → other ≢ Quoted → kind ≢ Quoted
 unquoted kind other e n f = n (sym e ∙ f)
@@ -120,14 +114,14 @@ module _ (rules : RuleSet) (pool : List (List ℕ)) where
   head_variable : (position : RulePosition) (name : List ℕ) (head : List (List ℕ)) (next : RulePosition) (lexeme : Lexeme)
       → said_before position ≡ [] → head_variable_tests name head lexeme (goes next) → Adds position next lexeme
   head_variable position name head next lexeme none h =
-      let variable = named h in
+      let variable = Word-next h in
       keeps position (wants_head_comma name (head ++ lexeme.text ∷ [])) next lexeme (Test-next (Test-next variable.1).1).1
       (name_unquoted lexeme.kind variable.0) (sym none)
 
   related : (position : RulePosition) (frame : Frame) (said : Said) (next : RulePosition) (lexeme : Lexeme)
       → said_constants frame said ≡ said_before position → relation_tests rules frame said lexeme (goes next) → Adds position next lexeme
   related position frame said next lexeme same h =
-      let name = named h in
+      let name = Word-next h in
       let found = (Test-next (Test-next (Test-next name.1).1).1).1 in
       keeps position (wants_parenthesis frame said (record { relation = found.0; width = length found.1.columns; args = [] })) next lexeme
       found.3 (name_unquoted lexeme.kind name.0) (append-nil (said_constants frame said) ∙ same)
@@ -181,7 +175,7 @@ module _ (rules : RuleSet) (pool : List (List ℕ)) where
       (Goes-next (wants_comma frame said (with_argument atom (Const c))) next found.2)
       (inr (h.0, (c, constant_more frame said atom c, record { there = found.1.there; short = short.0 })))
   argued frame said atom next lexeme (inr h) =
-      let name = named h.1 in
+      let name = Word-next h.1 in
       variable frame said atom lexeme.text next lexeme name.0 name.1
 
   closed_same : (frame : Frame) (said : Said) (atom : OpenAtom) → said_constants frame (with_atom said atom) ≡ open_constants frame said atom
@@ -240,20 +234,20 @@ module _ (rules : RuleSet) (pool : List (List ℕ)) where
 
   tgd_named : (next : RulePosition) (lexeme : Lexeme) → rule_tests rules pool wants_tgd_name lexeme (goes next) → Adds wants_tgd_name next lexeme
   tgd_named next lexeme h =
-      let name = named h in
+      let name = Word-next h in
       keeps wants_tgd_name (wants_colon (body_of_tgd lexeme.text)) next lexeme (Test-next (Test-next name.1).1).1
       (name_unquoted lexeme.kind name.0) refl
 
   egd_named : (next : RulePosition) (lexeme : Lexeme) → rule_tests rules pool wants_egd_name lexeme (goes next) → Adds wants_egd_name next lexeme
   egd_named next lexeme h =
-      let name = named h in
+      let name = Word-next h in
       keeps wants_egd_name (wants_colon (body_of_egd lexeme.text)) next lexeme (Test-next (Test-next name.1).1).1
       (name_unquoted lexeme.kind name.0) refl
 
   query_named : (next : RulePosition) (lexeme : Lexeme) → rule_tests rules pool wants_query_name lexeme (goes next)
       → Adds wants_query_name next lexeme
   query_named next lexeme h =
-      let name = named h in
+      let name = Word-next h in
       keeps wants_query_name (wants_head_parenthesis lexeme.text) next lexeme (Test-next (Test-next name.1).1).1
       (name_unquoted lexeme.kind name.0) refl
 
@@ -275,7 +269,7 @@ module _ (rules : RuleSet) (pool : List (List ℕ)) where
       → rule_tests rules pool (wants_exists_variable name body body_vars vars) lexeme (goes next)
       → Adds (wants_exists_variable name body body_vars vars) next lexeme
   exists_variable name body body_vars vars next lexeme h =
-      let variable = named h in
+      let variable = Word-next h in
       keeps (wants_exists_variable name body body_vars vars) (wants_exists_comma name body body_vars (vars ++ lexeme.text ∷ [])) next lexeme
       (Test-next (Test-next variable.1).1).1 (name_unquoted lexeme.kind variable.0) refl
 
@@ -293,14 +287,14 @@ module _ (rules : RuleSet) (pool : List (List ℕ)) where
   left_side : (name : List ℕ) (said : Said) (next : RulePosition) (lexeme : Lexeme)
       → rule_tests rules pool (wants_left name said) lexeme (goes next) → Adds (wants_left name said) next lexeme
   left_side name said next lexeme h =
-      let side = named h in
+      let side = Word-next h in
       let found = (Test-next side.1).1 in
       keeps (wants_left name said) (wants_equals name said found.0) next lexeme found.2 (name_unquoted lexeme.kind side.0) refl
 
   right_side : (name : List ℕ) (said : Said) (left : ℕ) (next : RulePosition) (lexeme : Lexeme)
       → rule_tests rules pool (wants_right name said left) lexeme (goes next) → Adds (wants_right name said left) next lexeme
   right_side name said left next lexeme h =
-      let side = named h in
+      let side = Word-next h in
       let found = (Test-next side.1).1 in
       keeps (wants_right name said left)
       (wants_line_end (Egd (record { name = name; vars = said.vars; body = said.atoms; left = left; right = found.0 })))

@@ -1,5 +1,5 @@
 -- A rule that is read from a line is valid in the mapping before it: what holds after each of its tokens.
-use Rattle.std.proofs.Common.{◌≡◌, ◌≢◌, inl, inr, ℕ, ◌<◌, ◌≤◌, List, [], ◌∷◌, ◌++◌, length, All, refl, sym, subst, arith}
+use Rattle.std.proofs.Common.{◌≡◌, inl, inr, ℕ, ◌<◌, ◌≤◌, List, [], ◌∷◌, ◌++◌, length, All, refl, sym, subst, arith}
 use Rattle.std.specs.Prelude.{IsSomeAnd}
 use Rattle.std.proofs.lemmas.List.{length_push}
 use Rattle.std.proofs.lemmas.List.Elements.{All-nil, All-push}
@@ -23,7 +23,7 @@ use Rattle.rule_text.specs.RuleLine.{Frame, body_of_tgd, head_of_tgd, body_of_eg
 use Rattle.rule_text.proofs.BodyLemmas.{first_within, variables_more, FitsWidth, BodyFits, body_none, body_known, body_new, body_constant, body_closed, body_atoms, body_numbered, HeadFits, head_none, head_argument, head_closed, head_atoms, branch_fits}
 
 module _ (rules : RuleSet) where
-  -- the name of a tgd, an egd or a query, which is new, and there is place for one more
+  -- the name of a tgd, an egd or a query, which is new, and there is room for one more
   pub record TgdNameFits (name : List ℕ) : Type 0 where
     pub is : IsName name
     pub new : IsNewRuleName rules name

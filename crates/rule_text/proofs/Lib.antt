@@ -10,6 +10,8 @@ pub mod AtomLemmas
 pub mod TgdLemmas
 pub mod EgdLemmas
 pub mod QueryLemmas
+pub mod WrittenLemmas
+pub mod LexemeLemmas
 mod CanonicalFacts
 pub mod LineLemmas
 pub mod LookupLemmas

@@ -22,12 +22,6 @@ use Rattle.rule_text.specs.RuleLine.{Frame, body_of_tgd, head_of_tgd, body_of_eg
 use Rattle.rule_text.specs.Frames.{part_of, LeadsIn, FailsIn}
 use Rattle.rule_text.specs.Follows.{StandsSign}
 
--- a fault that is handed on
-pub fault_later : (e : ReadError) (P Q : MappingFault → Type 0) → ((fault : MappingFault) → P fault → Q fault)
-    → IfFault {T = Unit {0}} (Err e) P → IfFault {T = Unit {0}} (Err e) Q
-fault_later (errors.Fault fault) P Q later h = later fault h
-fault_later errors.Memory P Q later h = tt
-
 -- the fault of a call whose answer is handed on
 pub fault_weaker : {T : Type 0} (result : Result T ReadError) (P Q : MappingFault → Type 0) → ((fault : MappingFault) → P fault → Q fault)
     → IfFault result P → IfFault result Q
@@ -54,7 +48,7 @@ module _ {P : Type 0} (tests : P → Lexeme → Outcome P → Type 0) (bytes : L
   Stand-join from [] mid others to a b = subst (λ n. Stand bytes n others to) a b
   Stand-join from (token ∷ tokens) mid others to a b = (a.0, Stand-join token.end tokens mid others to a.1 b)
 
-  -- the texts in quotes from a later place on are known too
+  -- the texts in quotes from a later offset on are known too
   pub known_later : (texts : List (List ℕ)) (from : ℕ) (position : P) (to : ℕ) (last : P) → Leads tests bytes from position to last
       → KnowsTexts bytes from texts → KnowsTexts bytes to texts
   known_later texts from position to last leads known text quoted =

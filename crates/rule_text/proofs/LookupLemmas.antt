@@ -15,7 +15,7 @@ use Rattle.rule_core.specs.Validity.{AreRelations}
 use Rattle.rule_text.specs.RuleLine.{IsFirstAt, IsFirstNamed, HasName}
 use Rattle.rule_text.specs.Frames.{IsDeclared, IsFound}
 
--- where members are apart from all later ones, those before a place are apart from the one there
+-- where members are apart from all later ones, those before a number are apart from the one there
 pub apart_before : {X : Type 0} (R : X → X → Type 0) (xs : List X) (n : ℕ) (x : X) → AllPairs R xs → slice_get xs n ≡ Some x
     → All (λ y. R y x) (take n xs)
 apart_before {X} R xs n x apart there k d small =

@@ -1,5 +1,5 @@
 -- The tests of a name that is to be new, and of which there may be one more: of a rule, a query, an `exists` or a head variable.
-use Rattle.std.proofs.Common.{◌≡◌, inl, inr, ℕ, List, [], refl}
+use Rattle.std.proofs.Common.{inl, inr, ℕ, List, [], refl}
 use Rattle.decl_text.specs.declared.token.Kind.TheVariants.{Equals}
 use Rattle.decl_text.specs.declared.token.Token.{Token}
 use Rattle.decl_text.specs.declared.fault.Code.{Code}

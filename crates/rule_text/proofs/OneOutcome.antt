@@ -9,7 +9,6 @@ use Rattle.rule_core.specs.declared.rules.Relation.{Relation}
 use Rattle.rule_core.specs.Mapping.{RuleSet}
 use Rattle.rule_core.specs.Adding.{relations_of}
 use Rattle.decl_text.specs.declared.fault.MappingFault.{MappingFault}
-use Rattle.decl_text.specs.Tokens.{IsNextFault}
 use Rattle.decl_text.specs.Tests.{Lexeme, goes, IsDecided, IsFinal}
 use Rattle.decl_text.proofs.DecidedLemmas.{AtMostOne, Goes-one, Stops-one, When-one, Test-one, Named-one}
 use Rattle.decl_text.proofs.OneOutcome.{leads_once, leads_fails, fails_once}
@@ -17,7 +16,7 @@ use Rattle.rule_text.specs.declared.rule.Rule.{Rule}
 use Rattle.rule_text.specs.declared.rule.Rule.TheVariants.{Query}
 use Rattle.rule_text.specs.RuleLine.{Frame, body_of_tgd, head_of_tgd, body_of_egd, disjunct_of, Said, OpenAtom, side_of, nothing_said, IsFirstAt, IsFirstNamed, Located, variable_tests, relation_tests, AreColumns, Disjuncts, after_atom_tests, head_variable_tests, RulePosition, begins, wants_tgd_name, wants_egd_name, wants_query_name, wants_head_parenthesis, wants_head, wants_head_variable, wants_head_comma, wants_colon, wants_atom, wants_parenthesis, wants_argument, wants_comma, after_atom, after_arrow, wants_exists_variable, wants_exists_comma, wants_left, wants_equals, wants_right, wants_line_end, stated, rule_tests, IsRule, FailsRule}
 
--- no place before one that all earlier ones miss is hit
+-- no number before one that all earlier ones miss is hit
 not_before : {X : Type 0} (P : X → Type 0) (xs : List X) (a b : ℕ) (x y : X) → slice_get xs a ≡ Some x → P x → slice_get xs b ≡ Some y
     → All (λ z. ¬ P z) (take b xs) → a < b → ⊥
 not_before P xs a b x y there holds other before lt =
@@ -26,7 +25,7 @@ not_before P xs a b x y there holds other before lt =
     let size : length (take b xs) ≡ b = length-take-le b xs (omega (arith, within)) in
     before a x (omega (arith, size, lt)) (subst P (sym here) holds)
 
--- a first place is one
+-- a first number is one
 first_once : {X : Type 0} (P : X → Type 0) (xs : List X) (a b : ℕ) (x y : X) → slice_get xs a ≡ Some x → P x → slice_get xs b ≡ Some y → P y
     → All (λ z. ¬ P z) (take a xs) → All (λ z. ¬ P z) (take b xs) → a ≡ b
 first_once P xs a b x y there holds other meets before_a before_b =

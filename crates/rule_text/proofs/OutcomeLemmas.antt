@@ -1,26 +1,20 @@
 -- The tests of each token of a rule's line come to some outcome: each line states a rule, or has a first fault.
-use Rattle.std.proofs.Common.{◌≡◌, ◌≢◌, ◌⊎◌, inl, inr, ⊎_elim, ℕ, zero, suc, ◌+◌, ◌<◌, ◌≤◌, List, [], ◌∷◌, ◌++◌, codes, length, take, get_or, Some as some, All, Contains, refl, sym, ap, ◌∙◌, subst, arith}
-use Rattle.std.specs.Prelude.{slice_get}
-use Rattle.std.specs.List.{AllZip}
+use Rattle.std.proofs.Common.{◌≡◌, ◌≢◌, ◌⊎◌, inl, inr, ⊎_elim, ℕ, suc, ◌<◌, List, [], ◌∷◌, ◌++◌, codes, length, take, Some as some, All, Contains, refl, sym, ap, ◌∙◌, subst}
 use Rattle.std.proofs.lemmas.Bool.{cases_eq}
 use Rattle.std.proofs.lemmas.List.Elements.{All-nil, All-cons, All-head, All-tail, Contains-push}
 use Rattle.rule_core.proofs.ListLemmas.{Contains-nil, Contains-cons_cases}
 use Rattle.rule_core.specs.declared.rules.Relation.{Relation}
 use Rattle.rule_core.specs.declared.rules.Arg.TheVariants.{Var, Const}
 use Rattle.rule_core.specs.declared.rules.Branch.{Branch}
-use Rattle.rule_core.specs.declared.rules.Tgd.{Tgd as TgdValue}
-use Rattle.rule_core.specs.declared.rules.Egd.{Egd as EgdValue}
 use Rattle.rule_core.specs.declared.rules.Query.{Query as QueryValue}
 use Rattle.rule_core.specs.Mapping.{RuleSet, rule_names}
 use Rattle.rule_core.specs.Adding.{relations_of, IsNewRuleName}
-use Rattle.decl_text.specs.declared.token.Kind.TheVariants.{Name, Quoted, LeftParen, RightParen, Comma, Colon, Arrow, Equals, Bar, LineEnd, Finish}
-use Rattle.decl_text.specs.declared.token.Token.{Token}
+use Rattle.decl_text.specs.declared.token.Kind.TheVariants.{Quoted, LeftParen, RightParen, Comma, Colon, Arrow, Equals, Bar, Finish}
 use Rattle.decl_text.specs.declared.fault.Code.TheVariants.{X5, X6, X7, X8, X9, U6}
 use Rattle.decl_text.specs.declared.fault.MappingFault.{MappingFault}
-use Rattle.decl_text.specs.TokenList.{Stand, KnowsTexts}
-use Rattle.decl_text.specs.Tests.{Lexeme, Says, Outcome, goes, When, Test, IsFinal, Leads}
-use Rattle.decl_text.specs.Declaration.{EndsLine}
-use Rattle.decl_text.proofs.SomeLemmas.{Decided, Some, same_kind, same_text, both, one_of, denied, less, at_most, each, there, is_keyword, ends_line, Goes-some, Stops-some, When-some, Test-some, Named-some}
+use Rattle.decl_text.specs.TokenList.{KnowsTexts}
+use Rattle.decl_text.specs.Tests.{Lexeme, Says, goes, When, Test, IsFinal, Leads}
+use Rattle.decl_text.proofs.SomeLemmas.{Decided, Some, same_kind, same_text, one_of, denied, less, at_most, each, there, is_keyword, ends_line, Goes-some, Stops-some, When-some, Test-some, Named-some}
 use Rattle.decl_text.proofs.PassLemmas.{Test-next, Goes-next}
 use Rattle.decl_text.proofs.WholeLemmas.{SayGood, AreWhole, Ends, read_to_an_end, finish_leads}
 use Rattle.rule_text.specs.declared.rule.Rule.{Rule}

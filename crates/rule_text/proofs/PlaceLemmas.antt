@@ -1,4 +1,4 @@
--- Names at their places: each stands first at its place, where no two are equal.
+-- Names by their numbers: each stands first at its number, where no two are equal.
 use Rattle.std.proofs.Common.{◌≡◌, ◌≢◌, ℕ, zero, suc, ◌<◌, ◌≤◌, AllPairs, Contains, List, [], ◌∷◌, length, get_or, take, Some, refl, sym, ap, ◌∙◌, subst, arith}
 use Rattle.std.specs.Prelude.{slice_get, IsSomeAnd}
 use Rattle.std.proofs.lemmas.List.{length-take-le, get_or-take, get_or-map}
@@ -17,7 +17,7 @@ what_is_found P [] k found = absurd found
 what_is_found P (x ∷ xs) zero found = (x, refl, found)
 what_is_found P (x ∷ xs) (suc k) found = what_is_found P xs k found
 
--- the name at a place stands first there
+-- the name with a number stands first there
 pub first_at : (names : List (List ℕ)) (k : ℕ) → AreDistinct names → k < length names → IsFirstAt names (text_at names k) k
 first_at names k distinct lt = record {
   there = slice_get-get_or names k [] lt;
@@ -63,7 +63,7 @@ pub pool_distinct : (pool : List (List ℕ)) → IsPool pool → AreDistinct poo
 pool_distinct pool is i j d lt within e =
     before_itself (get_or pool j d) (subst (λ t. IsBefore t (get_or pool j d)) e (is.order i j d lt within))
 
--- the name of the relation at a place
+-- the name of the relation with a number
 pub relation_name_is : (relations : List Relation) (k : ℕ) (relation : Relation) → slice_get relations k ≡ Some relation
     → relation_name relations k ≡ relation.name
 relation_name_is relations k relation e =

@@ -27,7 +27,7 @@ use Rattle.rule_text.proofs.PlaceLemmas.{first_at}
 use Rattle.rule_text.proofs.TurnLemmas.{known, numbered_turns}
 use Rattle.rule_text.proofs.AtomLemmas.{said_of, Names, IsShortText, atom_begins, atoms_written}
 
--- two lists of one length, place by place
+-- two lists of one length, member by member
 all_zip_from : {A B : Type 0} (R : A → B → Type 0) (a : A) (b : B) (xs : List A) (ys : List B) → length ys ≡ length xs
     → ((k : ℕ) → k < length xs → R (get_or xs k a) (get_or ys k b)) → AllZip R xs ys
 all_zip_from R a b [] [] size each = tt
@@ -37,7 +37,7 @@ all_zip_from R a b (x ∷ xs) (y ∷ ys) size each =
     (each 0 (omega arith), all_zip_from R a b xs ys (omega (arith, size)) (λ k lt. each (suc k) (omega (arith, lt))))
 
 module _ (relations : List Relation) (head : List (List ℕ)) (branch : Branch) (valid : IsBranch relations head branch) where
-  -- the place of a head variable among those of the disjunct
+  -- the number of a head variable among those of the disjunct
   column_found : (k : ℕ) → k < length head → slice_get branch.vars (get_or branch.columns k 0) ≡ Some (get_or head k [])
   column_found k lt = valid.columns k lt ∙ slice_get-get_or head k [] lt
 

@@ -19,7 +19,7 @@ use Rattle.rule_text.specs.declared.follows.After.TheVariants.{Next, Closed}
 use Rattle.rule_text.specs.declared.rule.Rule.{Rule}
 use Rattle.rule_text.specs.declared.rule.Rule.TheVariants.{Query}
 use Rattle.rule_text.specs.RuleLine.{disjunct_of, Said, nothing_said, wants_head_parenthesis, wants_head, wants_head_variable, wants_head_comma, wants_colon, wants_atom, after_atom, stated, rule_tests, IsFirstAt, AreColumns, HasHead}
-use Rattle.rule_text.specs.Follows.{place_of, StandsSign, IsNoAfter}
+use Rattle.rule_text.specs.Follows.{offset_of, StandsSign, IsNoAfter}
 use Rattle.rule_text.specs.Behind.{EndsDisjunct, StandsBehind, GoesOn, behind_disjuncts}
 use Rattle.rule_text.proofs.LineLemmas.{Leads-sign, Leads-alike, Fails-alike}
 use Rattle.rule_text.proofs.LookupLemmas.{first_is_there}
@@ -51,9 +51,9 @@ behind_ends token (Next to) stands = inl stands.0
 behind_ends token (Closed to) stands = inr stands.0
 
 -- it stands up to the token's end
-pub place_behind : (token : Token) (after : After) → StandsBehind token after → place_of after ≡ token.end
-place_behind token (Next to) stands = stands.1
-place_behind token (Closed to) stands = stands.1
+pub offset_behind : (token : Token) (after : After) → StandsBehind token after → offset_of after ≡ token.end
+offset_behind token (Next to) stands = stands.1
+offset_behind token (Closed to) stands = stands.1
 
 -- a disjunct with these variables, these atoms and these columns
 abbrev pub branch_of : Said → List ℕ → Branch
@@ -195,7 +195,7 @@ module _ (rules : RuleSet) (pool : List (List ℕ)) (bytes : List ℕ) (from : �
     pub disjunct_ends : (columns : List ℕ) (after : After) → StandsBehind token after → (GoesOn after → length branches < 7)
         → AreColumns said.vars head columns
         → Leads (rule_tests rules pool) bytes from (after_atom (disjunct_of name head branches) said)
-        (place_of after) (behind_disjuncts name head (branches ++ branch_of said columns ∷ []) after)
+        (offset_of after) (behind_disjuncts name head (branches ++ branch_of said columns ∷ []) after)
     disjunct_ends columns (Next to) behind few are =
         subst (λ (n : ℕ). Leads (rule_tests rules pool) bytes from (after_atom (disjunct_of name head branches) said)
         n (wants_atom (disjunct_of name head (branches ++ branch_of said columns ∷ [])) nothing_said)) (sym behind.1)

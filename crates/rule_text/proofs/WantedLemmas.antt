@@ -1,5 +1,5 @@
 -- Where a rule's line isn't over, a token is wanted.
-use Rattle.std.proofs.Common.{◌≡◌, inl, inr, ⊎_elim, ℕ, List, [], refl}
+use Rattle.std.proofs.Common.{inl, inr, ⊎_elim, ℕ, List, [], refl}
 use Rattle.rule_core.specs.Mapping.{RuleSet}
 use Rattle.decl_text.specs.declared.token.Kind.TheVariants.{Equals}
 use Rattle.decl_text.specs.declared.fault.Code.TheVariants.{X5, X6, X7, X8}
@@ -12,7 +12,7 @@ abbrev pub IsOpen : RulePosition → Type 0
 IsOpen (stated rule) = ⊥
 IsOpen other = Unit {0}
 
--- `=` is wanted in one place alone
+-- `=` is wanted at one position alone
 abbrev equals : Lexeme
 equals = record { kind = Equals; text = [] }
 

@@ -12,7 +12,7 @@ use Rattle.rule_core.proofs.NumberingLemmas.{occurrences_split, too_high}
 use Rattle.rule_text.specs.Constants.{IsTextual, AreTextual}
 use Rattle.rule_text.specs.Writable.{IsNamed, AreWritable}
 
--- a place at which something is found is within the list
+-- a number at which something is found is within the list
 pub within_found : {X : Type 0} (P : X → Type 0) (xs : List X) (k : ℕ) → IsSomeAnd (slice_get xs k) P → k < length xs
 within_found P [] k found = absurd found
 within_found P (x ∷ xs) zero found = omega arith

@@ -30,7 +30,7 @@ abbrev pub GoesOn : After → Type 0
 GoesOn (Next to) = ⊤
 GoesOn (Closed to) = ⊥
 
--- the place of each head variable among the variables, or none, where one isn't there
+-- the number of each head variable among the variables, or none, where one isn't there
 abbrev pub IsColumnList : List (List ℕ) → List (List ℕ) → Option (List ℕ) → Type 0
 IsColumnList vars head (Some columns) = AreColumns vars head columns
 IsColumnList vars head None = ¬ (All (Contains vars) head)

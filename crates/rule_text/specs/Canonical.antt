@@ -1,4 +1,4 @@
--- The canonical line of a rule. Relations, variables and constants are told by their places; one that isn't there is
+-- The canonical line of a rule. Relations, variables and constants are told by their numbers; one that isn't there is
 -- written as an empty text.
 use Rattle.std.specs.Prelude.{ℕ, List, [], ◌∷◌, codes, map, drop, slice_index_or}
 use Rattle.std.specs.List.{concat}
@@ -15,13 +15,13 @@ use Rattle.decl_text.specs.Canonical.{joined, quoted_text}
 use Rattle.rule_text.specs.declared.rule.Rule.{Rule}
 use Rattle.rule_text.specs.declared.rule.Rule.TheVariants.{Tgd, Egd, Query}
 
--- the text at this place
+-- the text with this number
 abbrev pub text_at : List (List ℕ) → ℕ → List ℕ
-text_at texts place = slice_index_or texts place []
+text_at texts number = slice_index_or texts number []
 
--- the name of the relation at this place
+-- the name of the relation with this number
 abbrev pub relation_name : List Relation → ℕ → List ℕ
-relation_name relations place = text_at (map (λ r. r.name) relations) place
+relation_name relations number = text_at (map (λ r. r.name) relations) number
 
 -- a list with a comma and a space between each two
 abbrev pub listed : List (List ℕ) → List ℕ

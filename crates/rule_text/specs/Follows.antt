@@ -10,14 +10,14 @@ use Rattle.decl_text.specs.Declaration.{EndsLine}
 use Rattle.rule_text.specs.declared.follows.After.{After}
 use Rattle.rule_text.specs.declared.follows.After.TheVariants.{Next, Closed}
 
--- from this place on, a sign of this kind stands next, up to that place
+-- from this offset on, a sign of this kind stands next, up to that offset
 abbrev pub StandsSign : List ℕ → ℕ → Kind → ℕ → Type 0
 StandsSign bytes from kind to = (token : Token) × (token.end ≡ to) × StandsNext bytes from token (record { kind = kind; text = [] })
 
--- the place after the sign
-abbrev pub place_of : After → ℕ
-place_of (Next to) = to
-place_of (Closed to) = to
+-- the offset after the sign
+abbrev pub offset_of : After → ℕ
+offset_of (Next to) = to
+offset_of (Closed to) = to
 
 -- after an item stands a comma, or the sign that closes the list
 abbrev pub IsAfter : List ℕ → ℕ → Kind → After → Type 0
@@ -28,7 +28,7 @@ IsAfter bytes from close (Closed to) = StandsSign bytes from close to
 abbrev pub IsNoAfter : Kind → Code → Lexeme → Code → Type 0
 IsNoAfter close wrong lexeme code = (lexeme.kind ≢ Comma) × (lexeme.kind ≢ close) × (code ≡ wrong)
 
--- from this place on, the line ends, and the next one begins at that place
+-- from this offset on, the line ends, and the next one begins at that offset
 abbrev pub StandsEnd : List ℕ → ℕ → ℕ → Type 0
 StandsEnd bytes from to = (token : Token) × (lexeme : Lexeme) × (token.end ≡ to) × StandsNext bytes from token lexeme × EndsLine lexeme
 

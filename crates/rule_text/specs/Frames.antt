@@ -28,7 +28,7 @@ abbrev pub said_of : List (List ℕ) → List Atom → Said
 said_of vars atoms = record { vars = vars; atoms = atoms }
 
 module _ (rules : RuleSet) (pool : List (List ℕ)) (bytes : List ℕ) where
-  -- in each frame of the part, the line leads from the one position at the first place to the other at the second
+  -- in each frame of the part, the line leads from the one position at the first offset to the other at the second
   abbrev pub LeadsIn : Part → ℕ → (Frame → RulePosition) → ℕ → (Frame → RulePosition) → Type 0
   LeadsIn part from position to last =
       (frame : Frame) → part_of frame ≡ part → Leads (rule_tests rules pool) bytes from (position frame) to (last frame)

@@ -1,6 +1,7 @@
 pub mod RuleLine
 pub mod Adding
 pub mod Canonical
+pub mod Lexemes
 pub mod Constants
 pub mod Writable
 pub mod Frames

@@ -64,10 +64,10 @@ with_argument atom arg = record atom { args = atom.args ++ arg ∷ [] }
 abbrev pub with_atom : Said → OpenAtom → Said
 with_atom said atom = record said { atoms = said.atoms ++ (record { relation = atom.relation; args = atom.args }) ∷ [] }
 
--- the name stands first at this place of the list
-pub record IsFirstAt (names : List (List ℕ)) (name : List ℕ) (place : ℕ) : Type 0 where
-  pub there : slice_get names place ≡ Some name
-  pub before : All (λ other. other ≢ name) (take place names)
+-- the name stands first at this number of the list
+pub record IsFirstAt (names : List (List ℕ)) (name : List ℕ) (number : ℕ) : Type 0 where
+  pub there : slice_get names number ≡ Some name
+  pub before : All (λ other. other ≢ name) (take number names)
 
 -- the first relation with the name has this number
 pub record IsFirstNamed (relations : List Relation) (name : List ℕ) (number : ℕ) (relation : Relation) : Type 0 where
@@ -108,9 +108,9 @@ pub data RulePosition : Type 0 where
   wants_line_end : Rule → RulePosition
   stated : Rule → RulePosition
 
--- the position that belongs to the place of the name in the list
+-- the position that belongs to the number of the name in the list
 abbrev pub Located : List (List ℕ) → List ℕ → (ℕ → RulePosition) → Outcome RulePosition → Type 0
-Located names name position outcome = (place : ℕ) × IsFirstAt names name place × Goes (position place) outcome
+Located names name position outcome = (number : ℕ) × IsFirstAt names name number × Goes (position number) outcome
 
 -- a variable, as an argument of an atom
 abbrev pub Variable : Frame → Said → OpenAtom → List ℕ → Outcome RulePosition → Type 0
@@ -141,7 +141,7 @@ relation_tests rules frame said token =
     (λ outcome. (number : ℕ) × (relation : Relation) × IsFirstNamed (relations_of rules (side_of frame)) token.text number relation
     × Goes (wants_parenthesis frame said (record { relation = number; width = length relation.columns; args = [] })) outcome))))
 
--- the columns of a disjunct: the place of each head variable among its variables
+-- the columns of a disjunct: the number of each head variable among its variables
 abbrev pub AreColumns : List (List ℕ) → List (List ℕ) → List ℕ → Type 0
 AreColumns vars head columns = AllZip (IsFirstAt vars) head columns
 
@@ -269,10 +269,10 @@ rule_tests rules pool (wants_line_end rule) token =
     (Goes (stated rule))
 rule_tests rules pool (stated rule) token = λ outcome. ⊥
 
--- from the first place up to the second, the bytes are a line that states this rule
+-- from the first offset up to the second, the bytes are a line that states this rule
 abbrev pub IsRule : List ℕ → RuleSet → List (List ℕ) → ℕ → Rule → ℕ → Type 0
 IsRule bytes rules pool from rule to = Leads (rule_tests rules pool) bytes from begins to (stated rule)
 
--- from this place on, this is the first fault of the line
+-- from this offset on, this is the first fault of the line
 abbrev pub FailsRule : List ℕ → RuleSet → List (List ℕ) → ℕ → MappingFault → Type 0
 FailsRule bytes rules pool from fault = Fails (rule_tests rules pool) bytes from begins fault

@@ -9,7 +9,7 @@ use Rattle.decl_text.specs.Parts.{StandsNext, IsNoName}
 use Rattle.decl_text.specs.Tests.{Lexeme}
 use Rattle.rule_text.specs.RuleLine.{IsFirstAt}
 
--- from the one place up to the other stands the name of the variable that is first at this place of the list
+-- from the one offset up to the other stands the name of the variable that is first at this number of the list
 pub record IsSide (bytes : List ℕ) (from : ℕ) (vars : List (List ℕ)) (variable to : ℕ) : Type 0 where
   pub token : Token
   pub text : List ℕ

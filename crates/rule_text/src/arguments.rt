@@ -19,18 +19,18 @@ use rule_core::limits::{LONGEST_CONSTANT, MOST_VARIABLES};
 use std::alloc::Global;
 use term_core::{ConstId, Items, Pool};
 
-/// The arguments of an atom, with the variables so far, and the place after the atom.
+/// The arguments of an atom, with the variables so far, and the offset after the atom.
 #[derive(Drop)]
 pub(crate) struct Arguments {
     /// The variables so far.
     pub(crate) vars: Variables,
     /// The arguments.
     pub(crate) args: Items<Arg>,
-    /// The place after the closing parenthesis.
+    /// The offset after the closing parenthesis.
     pub(crate) end: usize,
 }
 
-// An argument, with the variables so far, and the place after it.
+// An argument, with the variables so far, and the offset after it.
 #[derive(Drop)]
 struct Argument {
     vars: Variables,
@@ -132,7 +132,7 @@ fn read_constant(
     if text.as_bytes().len() > LONGEST_CONSTANT {
         return Err(fault_at(Code::U6, token));
     }
-    // No text stands in the pool twice, so the number is that of its first place.
+    // No text stands in the pool twice, so its number is the first of its text.
     let _size = pool.len();
     match pool.id_of(text.as_str()) {
         Some(id) => Ok(id),
@@ -161,8 +161,8 @@ fn read_variable(
 {
     let name = read_name(alloc, bytes, from, part.wrong(), Code::X9)?;
     let end = name.token.end;
-    if let Some(place) = vars.find(&name.text) {
-        let arg = Arg::Var(place);
+    if let Some(number) = vars.find(&name.text) {
+        let arg = Arg::Var(number);
         return Ok(Argument { vars, arg, end });
     }
     if part == Part::TgdHead {

@@ -21,18 +21,18 @@ use rule_core::{Atom, Rules};
 use std::alloc::Global;
 use term_core::{Items, Pool};
 
-/// Atoms, with the variables so far, and the place after them.
+/// Atoms, with the variables so far, and the offset after them.
 #[derive(Drop)]
 pub(crate) struct Atoms {
     /// The variables so far.
     pub(crate) vars: Variables,
     /// The atoms.
     pub(crate) list: Items<Atom>,
-    /// The place after them.
+    /// The offset after them.
     pub(crate) end: usize,
 }
 
-// An atom's relation by its number, how many columns it has, and the place after its name.
+// An atom's relation by its number, how many columns it has, and the offset after its name.
 #[derive(Clone, Copy)]
 struct Opened {
     relation: u32,
@@ -76,7 +76,7 @@ pub(crate) fn read_atoms(
     }
 }
 
-/// A colon, the atoms of a body, and the arrow behind them; `end` is the place after the arrow.
+/// A colon, the atoms of a body, and the arrow behind them; `end` is the offset after the arrow.
 pub(crate) fn read_body(
     alloc: Global,
     bytes: &[u8],

@@ -18,14 +18,14 @@ use rule_core::{Egd, Rules};
 use std::alloc::Global;
 use term_core::Pool;
 
-// A side of an egd: the place of its variable, and the place after its name.
+// A side of an egd: the number of its variable, and the offset after its name.
 #[derive(Clone, Copy)]
 struct Side {
     variable: u32,
     end: usize,
 }
 
-/// The line of an egd from its name on, and the place after the line.
+/// The line of an egd from its name on, and the offset after the line.
 pub(crate) fn read_egd(
     alloc: Global,
     bytes: &[u8],

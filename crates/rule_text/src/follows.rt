@@ -4,11 +4,11 @@ ghost use Rattle.std.specs.Prelude.{◌≡◌, ◌≢◌, ◌≤◌, length, IfO
 ghost use Rattle.decl_text.specs.Parts.{FailsAt};
 ghost use Rattle.decl_text.specs.Tests.{IfFault};
 ghost use Rattle.decl_text.specs.declared.token.Kind.TheVariants as kinds;
-ghost use Rattle.rule_text.specs.Follows.{place_of, IsAfter, IsNoAfter, StandsEnd, IsNoEnd};
+ghost use Rattle.rule_text.specs.Follows.{offset_of, IsAfter, IsNoAfter, StandsEnd, IsNoEnd};
 
 use decl_text::{Code, Kind, ReadError, fault_at, read_token};
 
-/// What follows an item of a list: a comma, or the sign that closes the list, with the place after it.
+/// What follows an item of a list: a comma, or the sign that closes the list, with the offset after it.
 #[derive(Clone, Copy)]
 pub(crate) enum After {
     /// The next item stands from here on.
@@ -28,7 +28,7 @@ pub(crate) fn read_after(
     requires name { close ≢ kinds.Name }
     requires quoted { close ≢ kinds.Quoted }
     ensures after { IfOk result (IsAfter bytes.now from close) }
-    ensures within { IfOk result (λ after. place_of after ≤ length bytes.now) }
+    ensures within { IfOk result (λ after. offset_of after ≤ length bytes.now) }
     ensures fault { IfFault result (FailsAt bytes.now from (IsNoAfter close wrong)) }
 {
     let token = read_token(bytes, from)?;
@@ -41,7 +41,7 @@ pub(crate) fn read_after(
     Ok(After::Closed(token.end))
 }
 
-/// The place after the end of the line; `wrong` is the fault of a token that doesn't end it.
+/// The offset after the end of the line; `wrong` is the fault of a token that doesn't end it.
 pub(crate) fn read_line_end(bytes: &[u8], from: usize, wrong: Code) -> Result<usize, ReadError>
     requires { from ≤ length bytes.now }
     ensures end { IfOk result (StandsEnd bytes.now from) }

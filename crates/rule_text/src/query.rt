@@ -7,7 +7,7 @@ ghost use Rattle.rule_core.specs.Limits.{most_head_variables};
 ghost use Rattle.rule_core.specs.Mapping.{RuleSet};
 ghost use Rattle.rule_core.specs.declared.rules.Branch.{Branch as BranchValue};
 ghost use Rattle.rule_text.specs.Behind.{EndsDisjunct, StandsBehind, GoesOn, behind_disjuncts, IsColumnList};
-ghost use Rattle.rule_text.specs.Follows.{place_of};
+ghost use Rattle.rule_text.specs.Follows.{offset_of};
 ghost use Rattle.rule_text.specs.RuleLine.{disjunct_of, nothing_said, wants_query_name, wants_head, wants_head_variable, wants_head_comma, wants_colon, wants_atom, stated, rule_tests};
 ghost use Rattle.rule_text.specs.declared.rule.Rule.TheVariants as lines;
 
@@ -25,14 +25,14 @@ use term_core::{Items, Memory, Pool, Text};
 /// The most bars of a query.
 const MOST_BARS: usize = MOST_DISJUNCTS - 1;
 
-// The head variables of a query, and the place after the closing parenthesis.
+// The head variables of a query, and the offset after the closing parenthesis.
 #[derive(Drop)]
 struct Head {
     names: Items<Text>,
     end: usize,
 }
 
-// The disjuncts of a query, and the place after the line.
+// The disjuncts of a query, and the offset after the line.
 #[derive(Drop)]
 struct Disjuncts {
     branches: Items<Branch>,
@@ -46,7 +46,7 @@ struct Disjunct {
     after: After,
 }
 
-/// The line of a query from its name on, and the place after the line.
+/// The line of a query from its name on, and the offset after the line.
 pub(crate) fn read_query(
     alloc: Global,
     bytes: &[u8],
@@ -189,10 +189,10 @@ fn read_disjunct(
     requires known { KnowsTexts bytes.now from pool.now }
     ensures disjunct { (name : List ℕ) (branches : List BranchValue) → length branches ≡ before
         → IfOk result (λ read. Leads (rule_tests rules.now pool.now) bytes.now
-        from (wants_atom (disjunct_of name head.now branches) nothing_said) (place_of read.after)
+        from (wants_atom (disjunct_of name head.now branches) nothing_said) (offset_of read.after)
         (behind_disjuncts name head.now (branches ++ read.branch ∷ []) read.after)) }
     ensures more { IfOk result (λ read. GoesOn read.after → before < MOST_BARS) }
-    ensures within { IfOk result (λ read. place_of read.after ≤ length bytes.now) }
+    ensures within { IfOk result (λ read. offset_of read.after ≤ length bytes.now) }
     ensures fault { (name : List ℕ) (branches : List BranchValue) → length branches ≡ before
         → IfFault result (Fails (rule_tests rules.now pool.now) bytes.now
         from (wants_atom (disjunct_of name head.now branches) nothing_said)) }
@@ -236,14 +236,14 @@ fn after_disjunct(token: &Token) -> Option<After>
     }
 }
 
-// The place of each head variable among the variables of a disjunct, if each is there.
+// The number of each head variable among the variables of a disjunct, if each is there.
 fn columns_of(alloc: Global, vars: &Variables, head: &[Text]) -> Result<Option<Items<u32>>, Memory>
     ensures { IfOk result (IsColumnList vars.now head.now) }
 {
     let mut columns = Items::new(alloc);
     for name in head {
         match vars.find(name) {
-            Some(place) => columns.push(place)?,
+            Some(number) => columns.push(number)?,
             None => return Ok(None),
         }
     }

@@ -17,7 +17,7 @@ use rule_core::Rules;
 use std::alloc::Global;
 use term_core::Pool;
 
-/// A line that begins with `tgd`, `egd` or `query`: the rule, and the place after the line. The rule may be added to
+/// A line that begins with `tgd`, `egd` or `query`: the rule, and the offset after the line. The rule may be added to
 /// the rules. A fault is the first of the line, at its byte.
 pub fn read_rule(
     alloc: Global,

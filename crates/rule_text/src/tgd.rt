@@ -24,14 +24,14 @@ use rule_core::{Rules, Tgd};
 use std::alloc::Global;
 use term_core::Pool;
 
-// The variables of a body and those of an `exists` list, and the place after the list.
+// The variables of a body and those of an `exists` list, and the offset after the list.
 #[derive(Drop)]
 struct Exists {
     vars: Variables,
     end: usize,
 }
 
-/// The line of a tgd from its name on, and the place after the line.
+/// The line of a tgd from its name on, and the offset after the line.
 pub(crate) fn read_tgd(
     alloc: Global,
     bytes: &[u8],

@@ -49,24 +49,24 @@ impl Variables {
         self.names.as_slice().contains(name)
     }
 
-    /// The place of the variable with the name, if there is one.
+    /// The number of the variable with the name, if there is one.
     pub(crate) fn find(&self, name: &Text) -> Option<u32>
         ensures found { IfSome result (IsFirstAt self.now name.now) }
         ensures none { IfNone result (¬ Contains self.now name.now) }
     {
-        let place = place_of(self.names.as_slice(), name)?;
-        Some(place as u32)
+        let number = number_of(self.names.as_slice(), name)?;
+        Some(number as u32)
     }
 
-    /// Adds a variable as the last, and gives its place.
+    /// Adds a variable as the last, and gives its number.
     pub(crate) fn push(&mut self, name: Text) -> Result<u32, Memory>
         requires { length self.old < most_variables }
         ensures last { OnOk result (self.new ≡ self.old ++ name ∷ []) }
-        ensures place { IfOk result (λ place. place ≡ length self.old) }
+        ensures number { IfOk result (λ number. number ≡ length self.old) }
     {
-        let place = self.names.len() as u32;
+        let number = self.names.len() as u32;
         self.names.push(name)?;
-        Ok(place)
+        Ok(number)
     }
 
     /// The names as a list.
@@ -78,15 +78,15 @@ impl Variables {
     }
 }
 
-// The first place of a name.
-fn place_of(names: &[Text], name: &Text) -> Option<usize>
+// The first number of a name.
+fn number_of(names: &[Text], name: &Text) -> Option<usize>
     ensures found { IfSome result (IsFirstAt names.now name.now) }
-    ensures within { IfSome result (λ place. place < length names.now) }
+    ensures within { IfSome result (λ number. number < length names.now) }
     ensures none { IfNone result (¬ Contains names.now name.now) }
 {
-    for (place, other) in names.iter().enumerate() {
+    for (number, other) in names.iter().enumerate() {
         if is_same(other, name) {
-            return Some(place);
+            return Some(number);
         }
     }
     None

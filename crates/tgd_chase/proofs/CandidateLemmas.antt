@@ -1,11 +1,11 @@
 -- Matches as candidates: what they show, and what a list of them has.
 use Rattle.std.proofs.Common.{◌≡◌, ⊎_elim, ◌↔◌, ℕ, zero, suc, ℤ, ◌+◌, ◌<◌, ◌≤◌, Option, Some, List, [], ◌∷◌, ◌++◌, length, map, take, get_or}
-use Rattle.std.proofs.Common.{refl, sym, ap, ◌∙◌, subst, arith, All, Contains}
+use Rattle.std.proofs.Common.{refl, sym, ap, ◌∙◌, subst, arith, append_assoc, All, Contains}
 use Rattle.std.specs.Prelude.{slice_get}
 use Rattle.std.proofs.lemmas.Bool.{cases_lt}
-use Rattle.std.proofs.lemmas.List.{length-map, map-append, take_more}
+use Rattle.std.proofs.lemmas.List.{append-nil, length-map, map-append, take_more}
 use Rattle.std.proofs.lemmas.List.Elements.{All-nil, All-append, All-push, All-contains, All-weaker, Contains-append_left, Contains-append_right, Contains-push, Contains-push_cases, Contains-get_or}
-use Rattle.std.proofs.lemmas.Option.{slice_get-get_or, get_or_from_slice_get, slice_get_past}
+use Rattle.std.proofs.lemmas.Option.{get_or_from_slice_get, slice_get_past}
 use Rattle.time_line.specs.Span.{Has, HasInstant}
 use Rattle.term_core.specs.declared.const_id.ConstId.{ConstId}
 use Rattle.term_core.specs.declared.term.Seen.{Seen}
@@ -19,22 +19,25 @@ use Rattle.rule_core.specs.Terms.{TermOf, constant}
 use Rattle.rule_core.specs.Mapping.{RuleSet}
 use Rattle.rule_core.specs.Firing.{frontier_of, Fires}
 use Rattle.rule_core.specs.Frontier.{IsFrontier}
-use Rattle.rule_core.proofs.ListLemmas.{Contains-nil}
+use Rattle.rule_core.proofs.ListLemmas.{Contains-nil, Contains-head, Contains-cons}
+use Rattle.rule_core.proofs.FiringLemmas.{frontier_is}
 use Rattle.fact_table.specs.declared.fact.Fact.{Fact}
 use Rattle.fact_table.specs.Rows.{SeenRow, row_at, row_of, rows_of}
 use Rattle.body_match.specs.declared.found.Match.{Match}
-use Rattle.body_match.specs.Matches.{seen_value, IsImage, IsImageAt, IsMatch}
+use Rattle.body_match.specs.Matches.{seen_value, IsImage, IsImageAt, IsMatch, AreMatches}
 use Rattle.fact_table.specs.Snapshots.{seen_term}
 use Rattle.body_match.specs.Snapshots.{AgreesWith, AreMatchesAtInstants}
 use Rattle.body_match.proofs.ListLemmas.{at_within, within_from_at, at_from_contains, at_map, at_from_map, maps_at, zip_at}
 use Rattle.body_match.proofs.PlaceLemmas.{atom_from_occurs}
 use Rattle.body_match.proofs.SearchLemmas.{some_and, and_some, same_some}
-use Rattle.body_match.proofs.SnapshotLemmas.{facts_from_match}
+use Rattle.body_match.proofs.SnapshotLemmas.{facts_from_match, all_at_instants}
+use Rattle.body_match.specs.Visits.{TakesInTurn}
 use Rattle.fact_table.specs.Snapshots.{snapshot_of}
 use Rattle.normaliser.specs.Normalised.{IsEndOf}
 use Rattle.failure_trace.specs.Firings.{FiresOn, GivesConstants}
-use Rattle.tgd_chase.specs.Candidates.{IsConstant, IsMadeFrom, IsCandidateOf, IsFoundAt, AreCandidatesOf, AddsCandidates, IsCandidate, AreCandidates}
+use Rattle.tgd_chase.specs.Candidates.{IsConstant, TakesMatch, IsMadeFrom, IsCandidateOf, IsFoundAt, AreCandidatesOf, AddsCandidates, IsCandidate, AreCandidates}
 use Rattle.tgd_chase.specs.declared.candidates.Candidate.{Candidate}
+use Rattle.tgd_chase.specs.declared.candidates.Finder.{Finder}
 
 -- the values of some variables
 
@@ -65,16 +68,22 @@ cells_read cells xs shown (v ∷ vs) (y ∷ ys) e =
     λ i. here i ∷ later i
 
 -- the value of one variable more
-pub values_more : {C : Type 0} (xs : List C) (vs : List ℕ) (i v : ℕ) (ys : List C) (c d : C) → i < length vs → v ≡ get_or vs i v
-    → v < length xs → c ≡ get_or xs v d
+pub values_more : {C : Type 0} (xs : List C) (vs : List ℕ) (i : ℕ) (ys new : List C) (c : C) (d : ℕ) → i < length vs
+    → slice_get xs (get_or vs i d) ≡ Some c → new ≡ ys ++ c ∷ []
     → map (λ v. slice_get xs v) (take i vs) ≡ map (λ c. Some c) ys
-    → map (λ v. slice_get xs v) (take (i + 1) vs) ≡ map (λ c. Some c) (ys ++ c ∷ [])
-values_more xs vs i v ys c d within is there value e =
-    let read : slice_get xs v ≡ Some c = slice_get-get_or xs v d there ∙ ap Some (sym value) in
-    ap (map (λ v. slice_get xs v)) (take_more vs i v within ∙ ap (λ w. take i vs ++ w ∷ []) (sym is))
-    ∙ map-append (λ v. slice_get xs v) (take i vs) (v ∷ [])
+    → map (λ v. slice_get xs v) (take (i + 1) vs) ≡ map (λ c. Some c) new
+values_more xs vs i ys new c d within read pushed e =
+    ap (map (λ v. slice_get xs v)) (take_more vs i d within)
+    ∙ map-append (λ v. slice_get xs v) (take i vs) (get_or vs i d ∷ [])
     ∙ (λ k. e k ++ read k ∷ [])
-    ∙ sym (map-append (λ c. Some c) ys (c ∷ []))
+    ∙ sym (map-append (λ c. Some c) ys (c ∷ [])) ∙ ap (map (λ c. Some c)) (sym pushed)
+
+-- the constant of one cell more
+pub constants_more : (cells : List Seen) (i : ℕ) (constants new : List ConstId) (c : ConstId) (d : Seen) → i < length cells
+    → get_or cells i d ≡ Const c → new ≡ constants ++ c ∷ [] → map Const constants ≡ take i cells
+    → map Const new ≡ take (i + 1) cells
+constants_more cells i constants new c d within read pushed e =
+    ap (map Const) pushed ∙ map-append Const constants (c ∷ []) ∙ (λ k. e k ++ sym read k ∷ []) ∙ sym (take_more cells i d within)
 
 -- the cells of a match in a table
 
@@ -105,13 +114,6 @@ module _ (table : List Fact) (body : List Atom) (vars : ℕ) (occurring : (v : �
       maps_at Some values row.0.cells a.1.args row.2.cells j.0 cell.0 (Var k) cell.1 j.1 in
       let read = get_or_from_slice_get found.binding k cell.0 d (sym value) in
       (shown.0, read ∙ sym shown.2)
-
--- a match that is read at a place of a list of matches is one of them
-pub read_match : (body : List Atom) (vars : ℕ) (rows : List (Option SeenRow)) (items found : List Match) (i : ℕ) (m : Match)
-    → items ≡ found → i < length items → m ≡ get_or items i m → ((n : Match) → Contains found n ↔ IsMatch body vars rows n)
-    → IsMatch body vars rows m
-read_match body vars rows items found i m same within is each =
-    (each m).0 (subst (λ l. Contains l m) same (i, within, sym is))
 
 -- the variables of a frontier are among those of the body
 pub frontier_within : (tgd : Tgd) (read variables : List ℕ) (n : ℕ) → read ≡ variables → IsFrontier tgd variables → n ≡ tgd.body_vars
@@ -198,6 +200,40 @@ module _ (table : List Fact) (place : ℕ) (tgd : Tgd) (occurring : (v : ℕ) �
         let has = subst (λ s. Has s t) (sym c.2.span) m.4.0 in
         (c.1.0, c.0, c.1.1, c.1.2, (c.2.rule, same, has));
   }
+
+  -- a candidate for each of the matches that are taken in turn, behind those so far
+  pub takes_made : (start : List Candidate) (done list : List Match) (listed : List Candidate) (old new : Finder)
+      → TakesInTurn TakesMatch old list new → old.rule ≡ place → old.variables ≡ frontier_of tgd
+      → ((m : Match) → Contains list m → IsMatch tgd.body tgd.body_vars (rows_of table) m)
+      → old.list.items ≡ start ++ listed → AreMadeFrom table place tgd done listed
+      → (more : List Candidate) × (new.list.items ≡ start ++ more) × AreMadeFrom table place tgd (done ++ list) more
+  takes_made start done [] listed old new same rule variables are is h = (
+    listed,
+    ap (λ (f : Finder). f.list.items) (sym same) ∙ is,
+    subst (λ l. AreMadeFrom table place tgd l listed) (sym (append-nil done)) h,
+  )
+  takes_made start done (m ∷ list) listed old new took rule variables are is h =
+      let whole = are m (Contains-head m list) in
+      let within : All (λ v. v < length m.binding) old.variables =
+      frontier_within tgd old.variables (frontier_of tgd) (length m.binding) variables (frontier_is tgd) whole.values in
+      let c = took.1.list (constants_shown table tgd.body tgd.body_vars occurring m whole, within) in
+      let made : IsMadeFrom place (frontier_of tgd) m c.0 =
+      subst (λ p. IsMadeFrom p (frontier_of tgd) m c.0) rule (subst (λ vs. IsMadeFrom old.rule vs m c.0) variables c.1) in
+      let rest = takes_made start (done ++ m ∷ []) list (listed ++ c.0 ∷ []) took.0 new took.2 (took.1.rule ∙ rule)
+      (took.1.variables ∙ variables) (λ n k. are n (Contains-cons m n list k))
+      (c.2 ∙ ap (λ l. l ++ c.0 ∷ []) is ∙ append_assoc start listed (c.0 ∷ [])) (made_more done listed m c.0 h whole made) in
+      (rest.0, rest.1, subst (λ l. AreMadeFrom table place tgd l rest.0) (append_assoc done (m ∷ []) list) rest.2)
+
+  -- behind those of other tgds stand those of all matches
+  pub takes_all : (list rest : List Match) (old new : Finder) → AreMatches tgd.body tgd.body_vars (rows_of table) (list ++ rest)
+      → rest ≡ [] → TakesInTurn TakesMatch old list new → old.rule ≡ place → old.variables ≡ frontier_of tgd
+      → AddsCandidates table place tgd old.list.items new.list.items
+  takes_all list rest old new matches none took rule variables =
+      let all : AreMatches tgd.body tgd.body_vars (rows_of table) list =
+      subst (AreMatches tgd.body tgd.body_vars (rows_of table)) (ap (λ l. list ++ l) none ∙ append-nil list) matches in
+      let h = takes_made old.list.items [] list [] old new took rule variables (λ m c. (all.each m).0 c) (sym (append-nil old.list.items))
+      made_none in
+      (h.0, h.1, all_made list h.0 (all_at_instants tgd.body tgd.body_vars (rows_of table) occurring list all.each) h.2)
 
 -- those of all tgds
 

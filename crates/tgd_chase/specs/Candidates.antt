@@ -1,5 +1,5 @@
 -- Matches of tgds' bodies, of which firings are made. No public clause cites this module.
-use Rattle.std.specs.Prelude.{◌≡◌, ℕ, ℤ, List, ◌++◌, Some, map, slice_get, All, Any, IsSomeAnd}
+use Rattle.std.specs.Prelude.{◌≡◌, ◌<◌, ℕ, ℤ, List, [], ◌∷◌, ◌++◌, Some, length, map, slice_get, All, Any, IsSomeAnd}
 use Rattle.time_line.specs.Span.{Has}
 use Rattle.term_core.specs.declared.const_id.ConstId.{ConstId}
 use Rattle.term_core.specs.declared.term.Seen.{Seen}
@@ -13,6 +13,7 @@ use Rattle.fact_table.specs.Snapshots.{stamped_facts, snapshot_of}
 use Rattle.failure_trace.specs.Firings.{Supports, FiresOn}
 use Rattle.tgd_chase.specs.Fired.{HasMatchEnds}
 use Rattle.tgd_chase.specs.declared.candidates.Candidate.{Candidate}
+use Rattle.tgd_chase.specs.declared.candidates.Finder.{Finder}
 
 -- the cell shows a constant
 abbrev pub IsConstant : Seen → Type 0
@@ -24,6 +25,17 @@ pub record IsMadeFrom (place : ℕ) (variables : List ℕ) (found : Match) (cand
   pub frontier : map (λ v. slice_get candidate.support.binding v) variables ≡ map (λ c. Some c) candidate.frontier
   pub binding : map Const candidate.support.binding ≡ found.binding
   pub span : candidate.support.span ≡ found.span
+
+-- all values of the match are constants, and these variables are among its own
+abbrev pub IsOfConstants : List ℕ → Match → Type 0
+IsOfConstants variables found = All IsConstant found.binding × All (λ v. v < length found.binding) variables
+
+-- the match is listed last as a candidate, if its values are constants
+pub record TakesMatch (old : Finder) (found : Match) (new : Finder) : Type 0 where
+  pub rule : new.rule ≡ old.rule
+  pub variables : new.variables ≡ old.variables
+  pub list : IsOfConstants old.variables found
+      → (c : Candidate) × IsMadeFrom old.rule old.variables found c × (new.list.items ≡ old.list.items ++ c ∷ [])
 
 -- the candidate is a match of the body of the tgd at the place
 pub record IsCandidateOf (table : List Fact) (place : ℕ) (tgd : Tgd) (candidate : Candidate) : Type 0 where

@@ -4,13 +4,14 @@
 
 ghost use Rattle.std.specs.Prelude.{◌≡◌, ◌↔◌, ◌<◌, ◌≤◌, ℕ, Some, All, Contains, length, map, slice_get, IfOk, OnOk};
 ghost use Rattle.rule_core.specs.Validity.{occurrences};
-ghost use Rattle.tgd_chase.specs.Candidates.{AreCandidates, AddsCandidates, IsMadeFrom, IsConstant};
+ghost use Rattle.tgd_chase.specs.Candidates.{AreCandidates, AddsCandidates, IsMadeFrom, IsOfConstants, IsConstant};
 
-use body_match::{Match, matches};
+use body_match::{Match, Visitor, visit_matches};
 use fact_table::FactTable;
 use failure_trace::Support;
 use rule_core::{Rules, Tgd, frontier};
 use std::alloc::Global;
+use std::mem::replace;
 use std::sync::ledger::Ledger;
 use term_core::{ConstId, Items, Memory, Seen, Steps};
 
@@ -57,12 +58,39 @@ fn add_candidates<L: Ledger>(
     ensures { OnOk result (AddsCandidates table.now rule tgd.now list.old.items list.new.items) }
 {
     let variables = frontier(alloc, tgd)?;
-    let found = matches(alloc, &tgd.body, tgd.body_vars, table, steps)?;
-    list.reserve(found.len())?;
-    for one in found.as_slice() {
-        list.push(candidate_of(alloc, rule, variables.as_slice(), one)?)?;
-    }
+    let mut finder = Finder {
+        alloc,
+        rule,
+        variables,
+        list: replace(list, Vec::new(alloc)),
+    };
+    let whole = visit_matches(alloc, &tgd.body, tgd.body_vars, table, &mut finder, steps)?;
+    prove!(whole);
+    *list = finder.list;
     Ok(())
+}
+
+// What takes each match of the body of the tgd at a place, whose frontier has these variables.
+#[derive(Drop)]
+struct Finder {
+    alloc: Global,
+    rule: u32,
+    variables: Items<u32>,
+    list: Vec<Candidate>,
+}
+
+impl Visitor for Finder {
+    ghost use Rattle.tgd_chase.specs.Candidates.{TakesMatch};
+
+    ghost takes = { λ old found new. TakesMatch old found new };
+
+    ghost stops = { λ _. ⊥ };
+
+    fn visit(&mut self, found: &Match) -> Result<bool, Memory> {
+        let candidate = candidate_of(self.alloc, self.rule, self.variables.as_slice(), found)?;
+        self.list.push(candidate)?;
+        Ok(true)
+    }
 }
 
 // A match as a candidate, where the frontier has these variables.
@@ -72,9 +100,8 @@ fn candidate_of(
     variables: &[u32],
     found: &Match,
 ) -> Result<Candidate, Memory>
-    requires constants { All IsConstant found.now.binding }
-    requires within { All (λ v. v < length found.now.binding) variables.now }
-    ensures { IfOk result (IsMadeFrom rule variables.now found.now) }
+    ensures { IfOk result (λ candidate. IsOfConstants variables.now found.now
+        → IsMadeFrom rule variables.now found.now candidate) }
 {
     let binding = constants_of(alloc, found.binding.as_slice())?;
     let frontier = values_of(alloc, variables, binding.as_slice())?;
@@ -91,16 +118,16 @@ fn candidate_of(
 
 // The constants that cells show.
 fn constants_of(alloc: Global, cells: &[Seen]) -> Result<Items<ConstId>, Memory>
-    requires { All IsConstant cells.now }
-    ensures { IfOk result (λ constants. map Seen.Const constants ≡ cells.now) }
+    ensures { IfOk result (λ constants. All IsConstant cells.now
+        → map Seen.Const constants ≡ cells.now) }
 {
     let mut constants = Items::new(alloc);
     constants.room(cells.len())?;
     for cell in cells {
-        match cell {
-            Seen::Const(constant) => constants.push(*constant)?,
-            Seen::Piece(_) => unreachable!(),
-        }
+        let Seen::Const(constant) = cell else {
+            continue;
+        };
+        constants.push(*constant)?;
     }
     Ok(constants)
 }
@@ -111,14 +138,16 @@ fn values_of(
     variables: &[u32],
     binding: &[ConstId],
 ) -> Result<Items<ConstId>, Memory>
-    requires { All (λ v. v < length binding.now) variables.now }
-    ensures { IfOk result (λ values.
-        map (λ v. slice_get binding.now v) variables.now ≡ map (λ c. Some c) values) }
+    ensures { IfOk result (λ values. All (λ v. v < length binding.now) variables.now
+        → map (λ v. slice_get binding.now v) variables.now ≡ map (λ c. Some c) values) }
 {
     let mut values = Items::new(alloc);
     values.room(variables.len())?;
     for variable in variables {
-        values.push(binding[*variable as usize])?;
+        let Some(value) = binding.get(*variable as usize) else {
+            continue;
+        };
+        values.push(*value)?;
     }
     Ok(values)
 }

@@ -47,11 +47,50 @@ pub fn fire<L: Ledger>(
 {
     let firings = list_firings(alloc, rules, table, steps)?;
     let mut store = NullStore::new(alloc);
+    reserve_all(rules, firings.as_slice(), &mut store)?;
     for firing in firings.as_slice() {
         has_instant(firing);
         add_rows(rules, firing, &mut store, steps)?;
     }
     Ok(Fired { store, firings })
+}
+
+// Takes memory for the rows of all firings at once.
+fn reserve_all(rules: &Rules, firings: &[Firing], store: &mut NullStore) -> Result<(), Memory>
+    ensures { HoldsSame store.old store.new }
+{
+    let tgds = rules.tgds().as_slice();
+    let mut need = Need {
+        rows: 0,
+        cells: 0,
+        pieces: 0,
+    };
+    for firing in firings {
+        if let Some(tgd) = tgds.get(firing.rule as usize) {
+            need.add(tgd);
+        }
+    }
+    store.reserve(need.rows, need.cells, need.pieces)
+}
+
+// For how many rows, cells and pieces memory is taken. No clause rests on it.
+#[derive(Clone, Copy)]
+struct Need {
+    rows: usize,
+    cells: usize,
+    pieces: usize,
+}
+
+impl Need {
+    // Adds what a firing of a tgd needs.
+    fn add(&mut self, tgd: &Tgd) {
+        let unknowns = tgd.vars.len().saturating_sub(tgd.body_vars as usize);
+        self.pieces = self.pieces.saturating_add(unknowns);
+        for atom in tgd.head.as_slice() {
+            self.rows = self.rows.saturating_add(1);
+            self.cells = self.cells.saturating_add(atom.args.len());
+        }
+    }
 }
 
 // A firing's span has an instant, as its start tells.

@@ -18,15 +18,15 @@ returns-then-not-is_new_relation_name-clause-fault c place =
     c.in_ok-name.ensures.stands c.in_ok-name.ensures.other c.in_ok-name.ensures.short
     (λ new. let found = c.is_new_relation_name.ensures.1 new in cc))
 
-pub returns-then-not-has_place-clause-fault : goal.returns-then-not-has_place-clause-fault
-returns-then-not-has_place-clause-fault c place =
-    rw c.fault_at-then-not-has_place.ensures
+pub returns-then-not-has_room-clause-fault : goal.returns-then-not-has_room-clause-fault
+returns-then-not-has_room-clause-fault c place =
+    rw c.fault_at-then-not-has_room.ensures
     (no_place c.args.rules.now c.args.bytes.now c.args.from place c.in_ok-name.name.token c.in_ok-name.name.text
     c.in_ok-name.ensures.stands c.in_ok-name.ensures.other c.in_ok-name.ensures.short (c.is_new_relation_name.ensures.0 c.if-not-is_new_relation_name.false)
-    (λ room. let found = c.has_place.ensures.1 room in cc))
+    (λ room. let found = c.has_room.ensures.1 room in cc))
 
 pub returns-clause-name : goal.returns-clause-name
 returns-clause-name c place =
     name_goes c.args.rules.now c.args.bytes.now c.args.from place c.in_ok-name.name.token c.in_ok-name.name.text
     c.in_ok-name.ensures.stands c.in_ok-name.ensures.other c.in_ok-name.ensures.short (c.is_new_relation_name.ensures.0 c.if-not-is_new_relation_name.false)
-    (c.has_place.ensures.0 c.if-not-has_place.false)
+    (c.has_room.ensures.0 c.if-not-has_room.false)

@@ -1,4 +1,5 @@
 use Rattle.std.proofs.Common.{◌≡◌, Err, sym, subst, ap, ◌∙◌, rules}
+use Rattle.decl_text.proofs.DeclarationLemmas.{IfFault-later}
 use Rattle.rule_text.proofs.WantedLemmas.{rule_wants}
 use Rattle.std.specs.Prelude.{◌≢◌}
 use Rattle.decl_text.specs.declared.fault.MappingFault.{MappingFault}
@@ -9,14 +10,13 @@ use Rattle.decl_text.proofs.TestLemmas.{Fails-own}
 use Rattle.decl_text.proofs.NextLemmas.{next_token_once}
 use Rattle.rule_text.specs.Frames.{said_of}
 use Rattle.rule_text.specs.RuleLine.{wants_argument, rule_tests}
-use Rattle.rule_text.proofs.LineLemmas.{fault_later}
 use Rattle.rule_text.proofs.AtomSteps.{constant_goes, constant_too_long}
 use Rattle.rule_text.proofs.arguments.read_argument.Goals as goal
 
 pub returns-in_err-token-clause-fault : goal.returns-in_err-token-clause-fault
 returns-in_err-token-clause-fault c set atoms atom =
     let answer : c.from_residual.result ≡ Err c.in_err-token.field-0.0 = search rules in
-    rw answer (fault_later c.in_err-token.field-0.0 _ _
+    rw answer (IfFault-later c.in_err-token.field-0.0 _ _
     (λ fault own frame same. Fails-own (rule_tests set c.args.pool.now) c.args.bytes.now c.args.from
     (wants_argument frame (said_of c.args.vars atoms) atom) (rule_wants set c.args.pool.now (wants_argument frame (said_of c.args.vars atoms) atom) tt) fault own) c.in_err-token.ensures.fault)
 
@@ -35,7 +35,7 @@ returns-then-ne-clause-fault c set atoms atom = c.read_variable.ensures.fault se
 pub returns-in_err-constant-clause-fault : goal.returns-in_err-constant-clause-fault
 returns-in_err-constant-clause-fault c set atoms atom =
     let answer : c.from_residual-in_err-constant.result ≡ Err c.in_err-constant.field-0.0 = search rules in
-    rw answer (fault_later c.in_err-constant.field-0.0 _ _
+    rw answer (IfFault-later c.in_err-constant.field-0.0 _ _
     (λ fault long frame same. subst (λ (f : MappingFault). Fails (rule_tests set c.args.pool.now) c.args.bytes.now c.args.from
     (wants_argument frame (said_of c.args.vars atoms) atom) f) (sym long.3)
     (constant_too_long set c.args.pool.now c.args.bytes.now frame c.args.from (said_of c.args.vars atoms) atom c.in_ok-token.token long.0

@@ -1,11 +1,12 @@
 use Rattle.std.proofs.Common.{◌≡◌, ◌<◌, [], length, Err, sym, subst, rules, arith}
+use Rattle.decl_text.proofs.DeclarationLemmas.{IfFault-later}
 use Rattle.rule_text.proofs.WantedLemmas.{rule_wants}
 use Rattle.decl_text.specs.declared.fault.Code.{Code}
 use Rattle.decl_text.specs.Tests.{Fails}
 use Rattle.decl_text.proofs.TestLemmas.{Fails-own}
 use Rattle.rule_text.specs.Frames.{said_of}
 use Rattle.rule_text.specs.RuleLine.{wants_argument, wants_comma, after_atom, with_atom, rule_tests}
-use Rattle.rule_text.proofs.LineLemmas.{fault_later, LeadsIn-join, FailsIn-later, known_in}
+use Rattle.rule_text.proofs.LineLemmas.{LeadsIn-join, FailsIn-later, known_in}
 use Rattle.rule_text.proofs.AtomSteps.{opened, one_more, comma_goes, atom_ends, arguments_too_many, arguments_too_few, comma_fails}
 use Rattle.rule_text.proofs.arguments.read_arguments.Goals as goal
 
@@ -19,7 +20,7 @@ read_argument-requires-clause-known c =
 pub returns-in_err-read-clause-fault : goal.returns-in_err-read-clause-fault
 returns-in_err-read-clause-fault c set atoms number =
     let answer : c.from_residual.result ≡ Err c.in_err-read.field-0.0 = search rules in
-    rw answer (fault_later c.in_err-read.field-0.0 _ _
+    rw answer (IfFault-later c.in_err-read.field-0.0 _ _
     (λ fault. FailsIn-later set c.args.pool.now c.args.bytes.now c.args.part c.args.from
     (λ f. wants_argument f (said_of c.args.vars atoms) (opened number c.args.width [])) c.loop-args.from
     (λ f. wants_argument f (said_of c.loop-args.vars atoms) (opened number c.args.width c.loop-args.args)) fault
@@ -33,7 +34,7 @@ returns-in_err-token-clause-fault c set atoms number =
     c.loop-args.vars c.in_ok-read.read.vars atoms number c.args.width c.loop-args.args c.push.new.self c.in_ok-read.read.arg
     c.in_ok-push.ensures.ok (c.loop-args.invariant.leads set atoms number)
     (c.in_ok-read.ensures.argument set atoms (opened number c.args.width c.loop-args.args)) in
-    rw answer (fault_later c.in_err-token.field-0.0 _ _
+    rw answer (IfFault-later c.in_err-token.field-0.0 _ _
     (λ fault own. FailsIn-later set c.args.pool.now c.args.bytes.now c.args.part c.args.from
     (λ f. wants_argument f (said_of c.args.vars atoms) (opened number c.args.width [])) c.in_ok-read.read.end
     (λ f. wants_comma f (said_of c.in_ok-read.read.vars atoms) (opened number c.args.width c.push.new.self)) fault so_far

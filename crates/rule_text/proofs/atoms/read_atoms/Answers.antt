@@ -1,4 +1,5 @@
 use Rattle.std.proofs.Common.{◌≡◌, [], Err, ap, ◌∙◌, rules}
+use Rattle.decl_text.proofs.DeclarationLemmas.{IfFault-later}
 use Rattle.rule_text.proofs.WantedLemmas.{rule_wants}
 use Rattle.std.specs.Prelude.{◌≢◌}
 use Rattle.decl_text.specs.declared.token.Kind.TheVariants.{Comma}
@@ -7,7 +8,7 @@ use Rattle.decl_text.proofs.NextLemmas.{next_token_once}
 use Rattle.decl_text.proofs.TestLemmas.{Fails-own}
 use Rattle.rule_text.specs.Frames.{said_of}
 use Rattle.rule_text.specs.RuleLine.{wants_atom, after_atom, rule_tests}
-use Rattle.rule_text.proofs.LineLemmas.{fault_later, LeadsIn-join, FailsIn-later, known_in}
+use Rattle.rule_text.proofs.LineLemmas.{LeadsIn-join, FailsIn-later, known_in}
 use Rattle.rule_text.proofs.AtomSteps.{next_atom}
 use Rattle.rule_text.proofs.atoms.read_atoms.Goals as goal
 
@@ -19,7 +20,7 @@ read_atom-requires-clause-known c =
 pub returns-in_err-read-clause-fault : goal.returns-in_err-read-clause-fault
 returns-in_err-read-clause-fault c =
     let answer : c.from_residual.result ≡ Err c.in_err-read.field-0.0 = search rules in
-    rw answer (fault_later c.in_err-read.field-0.0 _ _
+    rw answer (IfFault-later c.in_err-read.field-0.0 _ _
     (λ fault. FailsIn-later c.args.rules.now c.args.pool.now c.args.bytes.now c.args.part c.args.from (λ f. wants_atom f (said_of c.args.vars [])) c.loop-read.read.end
     (λ f. wants_atom f (said_of c.loop-read.read.vars c.loop-read.read.list)) fault c.loop-read.invariant.leads) c.in_err-read.ensures.fault)
 
@@ -29,7 +30,7 @@ returns-in_err-token-clause-fault c =
     let so_far = LeadsIn-join c.args.rules.now c.args.pool.now c.args.bytes.now c.args.part c.args.from (λ f. wants_atom f (said_of c.args.vars [])) c.loop-read.read.end
     (λ f. wants_atom f (said_of c.loop-read.read.vars c.loop-read.read.list)) c.in_ok-read.read.end (λ f. after_atom f (said_of c.in_ok-read.read.vars c.in_ok-read.read.list))
     c.loop-read.invariant.leads c.in_ok-read.ensures.atom in
-    rw answer (fault_later c.in_err-token.field-0.0 _ _
+    rw answer (IfFault-later c.in_err-token.field-0.0 _ _
     (λ fault own. FailsIn-later c.args.rules.now c.args.pool.now c.args.bytes.now c.args.part c.args.from (λ f. wants_atom f (said_of c.args.vars []))
     c.in_ok-read.read.end (λ f. after_atom f (said_of c.in_ok-read.read.vars c.in_ok-read.read.list)) fault so_far
     (λ frame same. Fails-own (rule_tests c.args.rules.now c.args.pool.now) c.args.bytes.now c.in_ok-read.read.end

@@ -1,12 +1,12 @@
 use Rattle.std.proofs.Common.{◌≡◌, ◌<◌, ◌≤◌, length, Err, rules, arith}
-use Rattle.rule_text.proofs.LineLemmas.{fault_later}
+use Rattle.decl_text.proofs.DeclarationLemmas.{IfFault-later}
 use Rattle.rule_text.proofs.AtomSteps.{StandsName, relation_goes, relation_fails, relation_missing, atoms_too_many}
 use Rattle.rule_text.proofs.atoms.read_relation.Goals as goal
 
 pub returns-in_err-name-clause-fault : goal.returns-in_err-name-clause-fault
 returns-in_err-name-clause-fault c pool said count =
     let answer : c.from_residual.result ≡ Err c.in_err-name.field-0.0 = search rules in
-    rw answer (fault_later c.in_err-name.field-0.0 _ _
+    rw answer (IfFault-later c.in_err-name.field-0.0 _ _
     (λ fault fails frame same. relation_fails c.args.rules.now pool c.args.bytes.now frame c.args.from said c.wrong.result fault
     (c.wrong.ensures frame same) fails) c.in_err-name.ensures.fault)
 

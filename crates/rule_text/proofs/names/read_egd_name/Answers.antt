@@ -1,8 +1,8 @@
 use Rattle.std.proofs.Common.{◌≡◌, ◌<◌, ◌≤◌, length, Err, rules, arith}
 use Rattle.rule_core.specs.Adding.{IsNewRuleName}
 use Rattle.decl_text.specs.declared.fault.Code.TheVariants.{X7}
+use Rattle.decl_text.proofs.DeclarationLemmas.{IfFault-later}
 use Rattle.rule_text.specs.RuleLine.{body_of_egd, wants_egd_name, wants_colon, rule_tests}
-use Rattle.rule_text.proofs.LineLemmas.{fault_later}
 use Rattle.rule_text.proofs.AtomSteps.{StandsName}
 use Rattle.rule_text.proofs.NameLemmas.{new_name_goes, new_name_fails, new_name_old, new_name_full}
 use Rattle.rule_text.proofs.names.read_egd_name.Goals as goal
@@ -10,7 +10,7 @@ use Rattle.rule_text.proofs.names.read_egd_name.Goals as goal
 pub returns-in_err-name-clause-fault : goal.returns-in_err-name-clause-fault
 returns-in_err-name-clause-fault c pool =
     let answer : c.from_residual.result ≡ Err c.in_err-name.field-0.0 = search rules in
-    rw answer (fault_later c.in_err-name.field-0.0 _ _ (new_name_fails (rule_tests c.args.rules.now pool) c.args.bytes.now c.args.from
+    rw answer (IfFault-later c.in_err-name.field-0.0 _ _ (new_name_fails (rule_tests c.args.rules.now pool) c.args.bytes.now c.args.from
     wants_egd_name X7 (λ t. IsNewRuleName c.args.rules.now t)
     (length c.args.rules.now.egds < 256) (λ t. wants_colon (body_of_egd t)) (λ lexeme outcome h. h))
     c.in_err-name.ensures.fault)

@@ -17,5 +17,5 @@ loop-name-preserved c =
     subst (λ (head : List (List ℕ)). AreColumns c.args.vars.now head c.push.new.self) (sym front)
     (subst (AreColumns c.args.vars.now (take c.loop-name.name-index c.args.head.now ++ c.name-item.result ∷ []))
     (sym c.in_ok-push-in-Some.ensures.ok)
-    (columns_push c.args.vars.now (take c.loop-name.name-index c.args.head.now) c.loop-name.columns c.name-item.result c.in-Some.place
+    (columns_push c.args.vars.now (take c.loop-name.name-index c.args.head.now) c.loop-name.columns c.name-item.result c.in-Some.number
     c.loop-name.invariant c.in-Some.ensures.found))

@@ -1,4 +1,5 @@
 use Rattle.std.proofs.Common.{◌≡◌, ℕ, ◌<◌, ◌≤◌, List, [], length, All, Contains, Err, refl, subst, rules, arith}
+use Rattle.decl_text.proofs.DeclarationLemmas.{IfFault-later}
 use Rattle.rule_text.proofs.WantedLemmas.{rule_wants}
 use Rattle.decl_text.specs.declared.token.Kind.TheVariants.{Bar}
 use Rattle.decl_text.specs.Tests.{Leads, Fails}
@@ -6,16 +7,15 @@ use Rattle.decl_text.proofs.TestLemmas.{Fails-later, Fails-own}
 use Rattle.rule_text.specs.Behind.{GoesOn, IsColumnList}
 use Rattle.rule_text.specs.Frames.{said_of}
 use Rattle.rule_text.specs.RuleLine.{disjunct_of, nothing_said, wants_atom, after_atom, AreColumns, rule_tests}
-use Rattle.rule_text.specs.Follows.{place_of}
+use Rattle.rule_text.specs.Follows.{offset_of}
 use Rattle.decl_text.proofs.TestLemmas.{Leads-join}
-use Rattle.rule_text.proofs.LineLemmas.{fault_later}
 use Rattle.rule_text.proofs.QuerySteps.{bar_goes_on, behind_ends, wrong_behind, head_missing_at, bars_too_many, disjunct_ends}
 use Rattle.rule_text.proofs.query.read_disjunct.Goals as goal
 
 pub returns-in_err-read-clause-fault : goal.returns-in_err-read-clause-fault
 returns-in_err-read-clause-fault c name branches count =
     let answer : c.from_residual.result ≡ Err c.in_err-read.field-0.0 = search rules in
-    rw answer (fault_later c.in_err-read.field-0.0 _ _
+    rw answer (IfFault-later c.in_err-read.field-0.0 _ _
     (λ fault fails. subst (λ (vars : List (List ℕ)). Fails (rule_tests c.args.rules.now c.args.pool.now) c.args.bytes.now c.args.from
     (wants_atom (disjunct_of name c.args.head.now branches) (said_of vars [])) fault) c.new.ensures (fails (disjunct_of name c.args.head.now branches) refl)) c.in_err-read.ensures.fault)
 
@@ -25,7 +25,7 @@ returns-in_err-token-clause-fault c name branches count =
     let so_far = subst (λ (vars : List (List ℕ)). Leads (rule_tests c.args.rules.now c.args.pool.now) c.args.bytes.now c.args.from
     (wants_atom (disjunct_of name c.args.head.now branches) (said_of vars [])) c.in_ok-read.read.end (after_atom (disjunct_of name c.args.head.now branches) (said_of c.in_ok-read.read.vars c.in_ok-read.read.list))) c.new.ensures
     (c.in_ok-read.ensures.atoms (disjunct_of name c.args.head.now branches) refl) in
-    rw answer (fault_later c.in_err-token.field-0.0 _ _
+    rw answer (IfFault-later c.in_err-token.field-0.0 _ _
     (λ fault own. Fails-later (rule_tests c.args.rules.now c.args.pool.now) c.args.bytes.now c.args.from (wants_atom (disjunct_of name c.args.head.now branches) nothing_said) c.in_ok-read.read.end
     (after_atom (disjunct_of name c.args.head.now branches) (said_of c.in_ok-read.read.vars c.in_ok-read.read.list)) fault so_far
     (Fails-own (rule_tests c.args.rules.now c.args.pool.now) c.args.bytes.now c.in_ok-read.read.end (after_atom (disjunct_of name c.args.head.now branches) (said_of c.in_ok-read.read.vars c.in_ok-read.read.list)) (rule_wants c.args.rules.now c.args.pool.now (after_atom (disjunct_of name c.args.head.now branches) (said_of c.in_ok-read.read.vars c.in_ok-read.read.list)) tt) fault own)) c.in_err-token.ensures.fault)
@@ -81,6 +81,6 @@ returns-clause-disjunct c name branches count =
     let bar = bar_goes_on c.in_ok-token.token c.in-Some.after c.in-Some.ensures.stands more in
     let small : c.args.before < 7 = search rules in omega arith in
     rw c.into_items.ensures (Leads-join (rule_tests c.args.rules.now c.args.pool.now) c.args.bytes.now c.args.from (wants_atom (disjunct_of name c.args.head.now branches) nothing_said) c.in_ok-read.read.end
-    (after_atom (disjunct_of name c.args.head.now branches) (said_of c.in_ok-read.read.vars c.in_ok-read.read.list)) (place_of c.in-Some.after) _ so_far
+    (after_atom (disjunct_of name c.args.head.now branches) (said_of c.in_ok-read.read.vars c.in_ok-read.read.list)) (offset_of c.in-Some.after) _ so_far
     (disjunct_ends c.args.rules.now c.args.pool.now c.args.bytes.now c.in_ok-read.read.end name c.args.head.now branches
     (said_of c.in_ok-read.read.vars c.in_ok-read.read.list) c.in_ok-token.token says.0 says.1 c.in-Some-2.columns c.in-Some.after c.in-Some.ensures.stands few are))

@@ -1,4 +1,5 @@
 use Rattle.std.proofs.Common.{◌≡◌, Err, ap, ◌∙◌, rules}
+use Rattle.decl_text.proofs.DeclarationLemmas.{IfFault-later}
 use Rattle.rule_text.proofs.WantedLemmas.{rule_wants}
 use Rattle.std.specs.Prelude.{◌≢◌}
 use Rattle.std.proofs.lemmas.Result.{IfOk-weaker}
@@ -8,14 +9,14 @@ use Rattle.decl_text.specs.Tokens.{IsNextToken}
 use Rattle.decl_text.proofs.NextLemmas.{next_token_once}
 use Rattle.decl_text.proofs.TestLemmas.{Fails-own}
 use Rattle.rule_text.specs.RuleLine.{wants_head, rule_tests}
-use Rattle.rule_text.proofs.LineLemmas.{fault_later, fault_weaker}
+use Rattle.rule_text.proofs.LineLemmas.{fault_weaker}
 use Rattle.rule_text.proofs.QuerySteps.{head_is_empty, head_goes, head_fails}
 use Rattle.rule_text.proofs.query.read_query_head.Goals as goal
 
 pub returns-in_err-token-clause-fault : goal.returns-in_err-token-clause-fault
 returns-in_err-token-clause-fault c set pool name =
     let answer : c.from_residual.result ≡ Err c.in_err-token.field-0.0 = search rules in
-    rw answer (fault_later c.in_err-token.field-0.0 _ _ (Fails-own (rule_tests set pool) c.args.bytes.now c.args.from (wants_head name) (rule_wants set pool (wants_head name) tt))
+    rw answer (IfFault-later c.in_err-token.field-0.0 _ _ (Fails-own (rule_tests set pool) c.args.bytes.now c.args.from (wants_head name) (rule_wants set pool (wants_head name) tt))
     c.in_err-token.ensures.fault)
 
 pub returns-then-eq-clause-head : goal.returns-then-eq-clause-head

@@ -2,18 +2,18 @@ use Rattle.std.proofs.Common.{◌≡◌, ℕ, ◌≤◌, List, [], ◌∷◌, �
 use Rattle.decl_text.specs.declared.token.Kind.TheVariants.{Colon}
 use Rattle.decl_text.specs.Tests.{Leads}
 use Rattle.decl_text.proofs.TestLemmas.{Leads-join, Fails-later}
+use Rattle.decl_text.proofs.DeclarationLemmas.{IfFault-later}
 use Rattle.rule_text.specs.Frames.{said_of}
 use Rattle.rule_text.specs.RuleLine.{head_of_tgd, wants_exists_variable, wants_exists_comma, wants_atom, rule_tests}
 use Rattle.rule_text.specs.declared.follows.After.{After}
-use Rattle.rule_text.specs.Follows.{place_of, IsAfter}
-use Rattle.rule_text.proofs.LineLemmas.{fault_later}
+use Rattle.rule_text.specs.Follows.{offset_of, IsAfter}
 use Rattle.rule_text.proofs.RuleLemmas.{exists_comma_goes, exists_colon_goes, exists_comma_fails}
 use Rattle.rule_text.proofs.tgd.read_exists.Goals as goal
 
 pub returns-in_err-name-clause-fault : goal.returns-in_err-name-clause-fault
 returns-in_err-name-clause-fault c set pool name body count =
     let answer : c.from_residual.result ≡ Err c.in_err-name.field-0.0 = search rules in
-    rw answer (fault_later c.in_err-name.field-0.0 _ _
+    rw answer (IfFault-later c.in_err-name.field-0.0 _ _
     (λ fault. Fails-later (rule_tests set pool) c.args.bytes.now c.args.from (wants_exists_variable name body count c.args.vars)
     c.loop-vars.from (wants_exists_variable name body count c.loop-vars.vars) fault
     (c.loop-vars.invariant.leads set pool name body count))
@@ -27,7 +27,7 @@ returns-in_err-after-clause-fault c set pool name body count =
     (Leads-join (rule_tests set pool) c.args.bytes.now c.args.from (wants_exists_variable name body count c.args.vars) c.loop-vars.from
     (wants_exists_variable name body count c.loop-vars.vars) c.in_ok-name.name.token.end (wants_exists_comma name body count (c.loop-vars.vars ++ c.in_ok-name.name.text ∷ []))
     (c.loop-vars.invariant.leads set pool name body count) (c.in_ok-name.ensures.variable set pool name body count)) in
-    rw answer (fault_later c.in_err-after.field-0.0 _ _
+    rw answer (IfFault-later c.in_err-after.field-0.0 _ _
     (λ fault fails. Fails-later (rule_tests set pool) c.args.bytes.now c.args.from (wants_exists_variable name body count c.args.vars)
     c.in_ok-name.name.token.end (wants_exists_comma name body count c.push.new.self) fault so_far
     (exists_comma_fails set pool c.args.bytes.now c.in_ok-name.name.token.end name body count c.push.new.self fault fails)) c.in_err-after.ensures.fault)
@@ -49,7 +49,7 @@ pub loop-vars-preserved : goal.loop-vars-preserved
 loop-vars-preserved c =
     let sign = subst (IsAfter c.args.bytes.now c.in_ok-name.name.token.end Colon) c.in-Next.is c.in_ok-after.ensures.after in
     record {
-      within = subst (λ (a : After). place_of a ≤ length c.args.bytes.now) c.in-Next.is c.in_ok-after.ensures.within;
+      within = subst (λ (a : After). offset_of a ≤ length c.args.bytes.now) c.in-Next.is c.in_ok-after.ensures.within;
       leads = λ set pool name body count.
           let so_far = subst (λ (all : List (List ℕ)). Leads (rule_tests set pool) c.args.bytes.now c.args.from (wants_exists_variable name body count c.args.vars)
           c.in_ok-name.name.token.end (wants_exists_comma name body count all)) (sym c.in_ok-push.ensures.last)

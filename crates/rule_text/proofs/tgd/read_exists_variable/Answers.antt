@@ -1,7 +1,7 @@
 use Rattle.std.proofs.Common.{◌≡◌, ◌<◌, ◌≤◌, [], ◌∷◌, ◌++◌, length, Contains, Err, rules, arith}
 use Rattle.decl_text.specs.declared.fault.Code.TheVariants.{X6}
+use Rattle.decl_text.proofs.DeclarationLemmas.{IfFault-later}
 use Rattle.rule_text.specs.RuleLine.{wants_exists_variable, wants_exists_comma, rule_tests}
-use Rattle.rule_text.proofs.LineLemmas.{fault_later}
 use Rattle.rule_text.proofs.AtomSteps.{StandsName}
 use Rattle.rule_text.proofs.NameLemmas.{new_name_goes, new_name_fails, new_name_old, new_name_full}
 use Rattle.rule_text.proofs.tgd.read_exists_variable.Goals as goal
@@ -9,7 +9,7 @@ use Rattle.rule_text.proofs.tgd.read_exists_variable.Goals as goal
 pub returns-in_err-name-clause-fault : goal.returns-in_err-name-clause-fault
 returns-in_err-name-clause-fault c set pool name_ body count =
     let answer : c.from_residual.result ≡ Err c.in_err-name.field-0.0 = search rules in
-    rw answer (fault_later c.in_err-name.field-0.0 _ _ (new_name_fails (rule_tests set pool) c.args.bytes.now c.args.from
+    rw answer (IfFault-later c.in_err-name.field-0.0 _ _ (new_name_fails (rule_tests set pool) c.args.bytes.now c.args.from
     (wants_exists_variable name_ body count c.args.vars.now) X6 (λ t. ¬ Contains c.args.vars.now t)
     (length c.args.vars.now < 32) (λ t. wants_exists_comma name_ body count (c.args.vars.now ++ t ∷ [])) (λ lexeme outcome h. h))
     c.in_err-name.ensures.fault)

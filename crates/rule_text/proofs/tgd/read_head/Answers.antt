@@ -1,4 +1,5 @@
 use Rattle.std.proofs.Common.{◌≡◌, ℕ, List, [], length, codes, Err, refl, subst, rules}
+use Rattle.decl_text.proofs.DeclarationLemmas.{IfFault-later}
 use Rattle.rule_text.proofs.WantedLemmas.{rule_wants}
 use Rattle.std.proofs.lemmas.Result.{IfOk-weaker}
 use Rattle.rule_core.specs.declared.rules.Atom.{Atom}
@@ -10,14 +11,14 @@ use Rattle.decl_text.proofs.NextLemmas.{next_token_once}
 use Rattle.decl_text.proofs.TestLemmas.{Leads-join, Fails-later, Fails-own}
 use Rattle.rule_text.specs.Frames.{said_of}
 use Rattle.rule_text.specs.RuleLine.{head_of_tgd, after_arrow, wants_exists_variable, wants_atom, after_atom, rule_tests}
-use Rattle.rule_text.proofs.LineLemmas.{fault_later, fault_weaker, known_later}
+use Rattle.rule_text.proofs.LineLemmas.{fault_weaker, known_later}
 use Rattle.rule_text.proofs.RuleLemmas.{exists_goes, head_at_once_goes, head_at_once_fails}
 use Rattle.rule_text.proofs.tgd.read_head.Goals as goal
 
 pub returns-in_err-token-clause-fault : goal.returns-in_err-token-clause-fault
 returns-in_err-token-clause-fault c name body =
     let answer : c.from_residual.result ≡ Err c.in_err-token.field-0.0 = search rules in
-    rw answer (fault_later c.in_err-token.field-0.0 _ _ (Fails-own (rule_tests c.args.rules.now c.args.pool.now) c.args.bytes.now c.args.from (after_arrow name (said_of c.args.vars body)) (rule_wants c.args.rules.now c.args.pool.now (after_arrow name (said_of c.args.vars body)) tt)) c.in_err-token.ensures.fault)
+    rw answer (IfFault-later c.in_err-token.field-0.0 _ _ (Fails-own (rule_tests c.args.rules.now c.args.pool.now) c.args.bytes.now c.args.from (after_arrow name (said_of c.args.vars body)) (rule_wants c.args.rules.now c.args.pool.now (after_arrow name (said_of c.args.vars body)) tt)) c.in_err-token.ensures.fault)
 
 pub returns-then-not-is_word-clause-head : goal.returns-then-not-is_word-clause-head
 returns-then-not-is_word-clause-head c name body =
@@ -46,7 +47,7 @@ returns-in_err-exists-clause-fault c name body =
     let answer : c.from_residual-in_err-exists.result ≡ Err c.in_err-exists.field-0.0 = search rules in
     let says = c.in_ok-token.ensures.says in
     let word : IsKeyword says.0 (codes "exists") = (c.is_word.ensures c.args.from says.0 says.1).0 (search rules) in
-    rw answer (fault_later c.in_err-exists.field-0.0 _ _
+    rw answer (IfFault-later c.in_err-exists.field-0.0 _ _
     (λ fault. Fails-later (rule_tests c.args.rules.now c.args.pool.now) c.args.bytes.now c.args.from (after_arrow name (said_of c.args.vars body)) c.in_ok-token.token.end
     (wants_exists_variable name body (length c.args.vars) c.args.vars) fault
     (exists_goes c.args.rules.now c.args.pool.now c.args.bytes.now c.args.from name (said_of c.args.vars body) c.in_ok-token.token says.0 says.1 word))

@@ -1,12 +1,12 @@
-use Rattle.std.proofs.Common.{◌≡◌}
-use Rattle.term_core.specs.declared.term.Seen.{Seen}
-use Rattle.term_core.specs.declared.term.Seen.TheVariants.{Piece}
-use Rattle.tgd_chase.specs.Candidates.{IsConstant}
+use Rattle.tgd_chase.proofs.CandidateLemmas.{constants_more}
 use Rattle.tgd_chase.proofs.candidates.constants_of.Goals as goal
 
--- a piece shows no constant
-no_piece : (cell : Seen) (piece : _) → cell ≡ Piece piece → ¬ (IsConstant cell)
-no_piece cell piece is shown = let constant = shown.1 in absurd cc
+pub loop-cell-preserved : goal.loop-cell-preserved
+loop-cell-preserved c = λ all.
+    constants_more c.args.cells.now c.loop-cell.cell-index c.loop-cell.constants _ c.in-Const.constant _ c.loop-cell-test.true c.in-Const.is
+    c.in_ok-push.ensures.ok (c.loop-cell.invariant all)
 
-pub unreachable-requires : goal.unreachable-requires
-unreachable-requires c = no_piece _ _ c.in-Piece.is (c.requires c.loop-cell.cell-index _ c.loop-cell-test.true)
+pub loop-cell-preserved-in_default : goal.loop-cell-preserved-in_default
+loop-cell-preserved-in_default c = λ all.
+    let shown = all c.loop-cell.cell-index _ c.loop-cell-test.true in
+    absurd (c.in_default.not-Const shown.0 shown.1)

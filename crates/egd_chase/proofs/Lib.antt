@@ -1,0 +1,3 @@
+mod StepMaps
+mod RunMaps
+mod SettledLemmas

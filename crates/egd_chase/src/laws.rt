@@ -1,0 +1,17 @@
+//! Laws of settling, over all instances and all instants.
+
+ghost use Rattle.egd_chase.specs.Settling.{RunsKeepMaps, RunsLeadOn, ClashesEndMaps, SettledRowsHold};
+
+/// What an allowed run of a journal does at each instant. Each map of the snapshot at its beginning into an instance in which
+/// every egd holds maps the one at its end there too, and the one at its beginning maps into the one at its end. So at each
+/// instant of an allowed clash the snapshot at the beginning maps into no such instance.
+pub fn settling_keeps_maps_into_models()
+    ensures keeps { RunsKeepMaps }
+    ensures leads { RunsLeadOn }
+    ensures clashes { ClashesEndMaps }
+{}
+
+/// Where no match over a common time has unequal sides, every egd holds at every instant.
+pub fn every_egd_holds_in_settled_rows()
+    ensures { SettledRowsHold }
+{}
