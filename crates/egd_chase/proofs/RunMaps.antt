@@ -1,5 +1,5 @@
 -- What a run of a journal does to the maps of a snapshot.
-use Rattle.std.proofs.Common.{◌≡◌, ℕ, zero, suc, ℤ, Some, None, Option, List, [], ◌∷◌, refl, sym, subst, arith, Contains, IsPermutation, IsSomeAnd, slice_get}
+use Rattle.std.proofs.Common.{◌≡◌, ℕ, ℤ, Some, List, [], ◌∷◌, sym, subst, Contains, IsPermutation, slice_get}
 use Rattle.std.proofs.lemmas.List.Elements.{All-contains}
 use Rattle.std.proofs.lemmas.List.Sorted.{IsPermutation-sym, Contains-permutation}
 use Rattle.term_core.specs.declared.const_id.ConstId.{ConstId}
@@ -15,23 +15,13 @@ use Rattle.rule_core.proofs.EqualSideLemmas.{fact_image-unknown}
 use Rattle.failure_trace.specs.JournalRun.{RowOf, Equates, Clashes, step_terms}
 use Rattle.failure_trace.proofs.SnapshotSteps.{Shows, shown, in_snapshot}
 use Rattle.egd_chase.specs.Settling.{EgdsHold, RunsKeepMaps, RunsLeadOn, ClashesEndMaps}
+use Rattle.egd_chase.proofs.ListLemmas.{chosen, in_list}
 use Rattle.egd_chase.proofs.StepMaps.{step_keeps, step_leads, clash_ends}
 
 -- what is shown does not rest on the order of rows
-shows_up_to_order : (t : ℤ) (state last : List (RowOf ConstId)) (fact : FactOf ConstId) → IsPermutation state last → Shows t state fact
+pub shows_up_to_order : (t : ℤ) (state last : List (RowOf ConstId)) (fact : FactOf ConstId) → IsPermutation state last → Shows t state fact
     → Shows t last fact
 shows_up_to_order t state last fact p s = (s.0, Contains-permutation state last s.0 p s.1, s.2, s.3)
-
--- what stands at a number of a list is in it
-in_list : {X : Type 0} (xs : List X) (k : ℕ) (x : X) → slice_get xs k ≡ Some x → Contains xs x
-in_list (y ∷ ys) zero x e = (0, omega arith, cc)
-in_list (y ∷ ys) (suc k) x e = let c = in_list ys k x e in (suc c.0, omega (arith, c.1), c.2)
-in_list [] k x e = absurd cc
-
--- what is so of the rule with a number
-chosen : (Q : Egd → Type 0) (o : Option Egd) → IsSomeAnd o Q → (egd : Egd) × (o ≡ Some egd) × Q egd
-chosen Q (Some egd) q = (egd, refl, q)
-chosen Q None q = absurd q
 
 egd_holds : (rules : RuleSet) (number : ℕ) (egd : Egd) (instance : List (FactOf ConstId)) → EgdsHold rules instance
     → slice_get rules.egds number ≡ Some egd → EgdHolds (λ c. c) egd instance

@@ -31,7 +31,7 @@ module _ {C : Type 0} (cmp : C → C → Ordering) (r : Replacement C) where
   two_unknowns u w Equal e = absurd cc
   two_unknowns u w Greater e = let gone : u ≡ r.gone = cc in let by : unknown w ≡ r.by = cc in inl (ap unknown gone, by)
 
-  its_sides : (a b : TermOf C) → replacement_of cmp a b ≡ Some r → AreItsSides a b
+  pub its_sides : (a b : TermOf C) → replacement_of cmp a b ≡ Some r → AreItsSides a b
   its_sides (constant c) (constant d) e = absurd cc
   its_sides (constant c) (unknown w) e =
       let gone : w ≡ r.gone = cc in let by : constant c ≡ r.by = cc in inr (by, ap unknown gone)
