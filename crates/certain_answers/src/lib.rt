@@ -5,5 +5,8 @@
 
 mod collecting;
 mod querying;
+mod table_answers;
+mod table_rows;
 
 pub use querying::answers;
+pub use table_answers::answers_of;
