@@ -1,7 +1,7 @@
 -- What a shelf holds after files were stored in turn, and the names of the files of a product.
-use Rattle.std.proofs.Common.{◌≡◌, ◌≢◌, ℕ, ◌+◌, ◌<◌, List, [], ◌∷◌, ◌++◌, length, get_or, take, drop, zero, suc, refl, sym, ap, ◌∙◌, subst, arith, codes, All, AllPairs, reverse}
+use Rattle.std.proofs.Common.{◌≡◌, ◌≢◌, ℕ, ◌+◌, ◌<◌, List, [], ◌∷◌, ◌++◌, length, get_or, take, drop, zero, suc, refl, sym, ap, ◌∙◌, subst, arith, codes, map, inl, inr, All, AllPairs, reverse}
 use Rattle.std.proofs.lemmas.List.{append_cancel_left, append_cancel_right, reverse-append}
-use Rattle.std.proofs.lemmas.List.Elements.{All-nil, All-cons, All-head, All-tail}
+use Rattle.std.proofs.lemmas.List.Elements.{All-nil, All-cons, All-head, All-tail, All-contains, Contains-append_right, Contains-append_cases}
 use Rattle.std.proofs.lemmas.List.Kept.{AllPairs-cons}
 use Rattle.std.proofs.lemmas.List.Quantifiers.{all_pairs_push}
 use Rattle.std.proofs.lemmas.List.{take_more}
@@ -12,7 +12,12 @@ use Rattle.std.specs.Option.{option_map}
 use Rattle.std.specs.FinMap.{insert}
 use Rattle.shelf_core.specs.Held.{Held, Sets, OthersStay}
 use Rattle.rule_core.specs.declared.rules.Relation.{Relation}
-use Rattle.rule_core.specs.Validity.{IsValid}
+use Rattle.rule_core.specs.Validity.{IsValid, IsRelation}
+use Rattle.rule_core.specs.Names.{IsName, IsNameByte}
+use Rattle.rule_core.specs.declared.rules.Query.{Query}
+use Rattle.rule_core.proofs.ListLemmas as kept
+use Rattle.rule_core.proofs.ListLemmas.{Contains-head, Contains-from_map, AllPairs-head, AllPairs-tail, AllPairs-map, AllPairs-weaker}
+use Rattle.exchange_cli.specs.Answers.{answer_relation}
 use Rattle.exchange_cli.specs.Run.{Device, with_files, StoresUpTo}
 use Rattle.exchange_cli.specs.Words.{Command, Exchange, Normalise}
 use Rattle.exchange_cli.specs.Names.{table_name, verdict_name}
@@ -111,15 +116,68 @@ none_is_verdict prefix (r ∷ rs) (f ∷ fs) (rows ∷ more) file verdict are =
     All-cons (λ (g : FileOut). g.name ≢ file.name) f fs (λ same. not_verdict prefix r.name (sym are.0.name ∙ same ∙ verdict))
     (none_is_verdict prefix rs fs more file verdict are.1)
 
+-- a name has no dot, and so no relation is named as the answers of a query
+no_dot : ¬ (IsNameByte 46)
+no_dot (inl (inl h)) = omega (arith, h.0)
+no_dot (inl (inr h)) = omega (arith, h.0)
+no_dot (inr (inl h)) = omega (arith, h.0)
+no_dot (inr (inr h)) = omega (arith, h)
+
+not_answers : (name query : List ℕ) → IsName name → name ≢ query ++ codes ".answers"
+not_answers name query is same =
+    no_dot (All-contains IsNameByte (query ++ codes ".answers") 46 (subst (All IsNameByte) same is.bytes)
+    (Contains-append_right query (codes ".answers") 46 (Contains-head 46 (codes "answers"))))
+
+abbrev OtherName : Relation → Relation → Type 0
+OtherName a b = a.name ≢ b.name
+
+answers_apart : (queries : List Query) → AllPairs (λ (a b : Query). a.name ≢ b.name) queries
+    → AllPairs OtherName (map answer_relation queries)
+answers_apart queries apart =
+    AllPairs-map OtherName answer_relation queries
+    (AllPairs-weaker (λ (a b : Query). a.name ≢ b.name) (λ a b. OtherName (answer_relation a) (answer_relation b))
+    (λ a b other same. other (append_cancel_right a.name b.name (codes ".answers") same)) queries apart)
+
+all_apart : (relations : List Relation) (queries : List Query) → All IsRelation relations → AllPairs OtherName relations
+    → AllPairs (λ (a b : Query). a.name ≢ b.name) queries → AllPairs OtherName (relations ++ map answer_relation queries)
+all_apart [] queries valid apart others = answers_apart queries others
+all_apart (r ∷ rs) queries valid apart others =
+    kept.AllPairs-cons OtherName r (rs ++ map answer_relation queries)
+    (λ y c. elim (Contains-append_cases rs (map answer_relation queries) y c) [
+      | inl d ↦ AllPairs-head OtherName r rs apart y d
+      | inr d ↦
+          let q = Contains-from_map answer_relation queries y d in
+          subst (OtherName r) q.2 (not_answers r.name q.0.name (All-head IsRelation r rs valid).name)
+    ])
+    (all_apart rs queries (All-tail IsRelation r rs valid) (AllPairs-tail OtherName r rs apart) others)
+
+-- the files of two lists of tables
+files_join : (prefix : List ℕ) (rs qs : List Relation) (fs gs : List FileOut) (ts us : List TargetTable)
+    → AreTableFiles prefix rs fs ts → AreTableFiles prefix qs gs us → AreTableFiles prefix (rs ++ qs) (fs ++ gs) (ts ++ us)
+files_join prefix [] qs [] gs [] us are more = more
+files_join prefix [] qs [] gs (t ∷ ts) us are more = absurd (let bad = are.1 in cc)
+files_join prefix [] qs (f ∷ fs) gs ts us are more = absurd (let bad = are.0 in cc)
+files_join prefix (r ∷ rs) qs [] gs ts us are more = absurd are
+files_join prefix (r ∷ rs) qs (f ∷ fs) gs [] us are more = absurd are
+files_join prefix (r ∷ rs) qs (f ∷ fs) gs (t ∷ ts) us are more = (are.0, files_join prefix rs qs fs gs ts us are.1 more)
+
 -- the files of a product have distinct names
 pub distinct_files : (command : Command) (inputs : Inputs) (product : Product) → IsValid inputs.mapping.rules
     → Makes command inputs product → HaveDistinctNames product.files
 distinct_files (Exchange origin target) inputs product valid makes =
     let groups = makes.groups in
     let tables = makes.each.tables in
-    rw makes.files (all_pairs_push (λ (a b : FileOut). a.name ≢ b.name) groups.tables groups.verdict
-    (distinct_tables target inputs.mapping.rules.targets groups.tables tables.tables valid.relations.target_names tables.each)
-    (none_is_verdict target inputs.mapping.rules.targets groups.tables tables.tables groups.verdict makes.each.verdict.name tables.each))
+    let answers = makes.each.answers in
+    let rules = inputs.mapping.rules in
+    let relations = rules.targets ++ map answer_relation rules.queries in
+    let files = groups.tables ++ groups.answers in
+    let stored = tables.tables ++ answers.tables in
+    let each = files_join target rules.targets (map answer_relation rules.queries) groups.tables groups.answers tables.tables answers.tables
+    tables.each answers.each in
+    let apart = all_apart rules.targets rules.queries valid.relations.target_relations valid.relations.target_names valid.queries.names in
+    rw makes.files (all_pairs_push (λ (a b : FileOut). a.name ≢ b.name) files groups.verdict
+    (distinct_tables target relations files stored apart each)
+    (none_is_verdict target relations files stored groups.verdict makes.each.verdict.name each))
 distinct_files (Normalise origin out) inputs product valid makes =
     let pieces = makes.files in
     let sources = inputs.mapping.rules.sources in

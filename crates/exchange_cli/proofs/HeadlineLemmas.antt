@@ -14,7 +14,7 @@ use Rattle.exchange_cli.specs.Inputs.{Inputs, name_of, source_of}
 use Rattle.exchange_cli.specs.Product.{IsSolved, Makes, IsFindingOf, IsOwnStatus}
 use Rattle.exchange_cli.specs.Work.{Fetch, AreTold, Reads, FailsFirst}
 use Rattle.exchange_cli.specs.Run.{Device, Moment, Refuses, IsMadeFor, Finishes, Causes, Ends, Says, Untouched, with_files}
-use Rattle.exchange_cli.specs.Headline.{IsUnhindered, Completes, WordsClause, AnswerClause, RefusalClause, CompletesClause, OutputClause, StoreClause, StatusClause, TargetClause, PiecesClause, IsLineOf}
+use Rattle.exchange_cli.specs.Headline.{IsUnhindered, Completes, WordsClause, AnswerClause, RefusalClause, CompletesClause, OutputClause, StoreClause, StatusClause, TargetClause, AnswersClause, PiecesClause, IsLineOf}
 use Rattle.exchange_cli.specs.declared.file.FileOut.{FileOut}
 use Rattle.exchange_cli.specs.declared.product.Product.{Product}
 use Rattle.exchange_cli.specs.declared.ending.Finding.{Finding}
@@ -123,6 +123,15 @@ pub target_clause : (words : List (List ℕ)) (before after : Moment) (status : 
 target_clause words before after status all = λ origin target held inputs free zero.
     let done = all (Exchange origin target) held inputs free in
     (done.made.groups, done.made.each, done.stored ∙ ap (λ (files : List FileOut). Some (with_files held files)) done.made.files)
+
+pub answers_clause : (words : List (List ℕ)) (before after : Moment) (status : ℕ)
+    → CompletesClause words before after status → AnswersClause words before after status
+answers_clause words before after status all = λ origin target held inputs free zero.
+    let done = all (Exchange origin target) held inputs free in (
+      done.made.groups,
+      done.made.each.answers,
+      done.stored ∙ ap (λ (files : List FileOut). Some (with_files held files)) done.made.files,
+    )
 
 pub pieces_clause : (words : List (List ℕ)) (before after : Moment) (status : ℕ)
     → CompletesClause words before after status → PiecesClause words before after status

@@ -1,5 +1,4 @@
 pub mod ListLemmas
-pub mod RankLemmas
 pub mod StoringLemmas
 pub mod CuttingLemmas
 pub mod RenderingLemmas
@@ -7,6 +6,7 @@ pub mod StoredOrderLemmas
 pub mod FactTextLemmas
 pub mod NameLemmas
 pub mod TargetLemmas
+pub mod CertainLemmas
 pub mod SizeLemmas
 pub mod StepLemmas
 pub mod ReadLemmas

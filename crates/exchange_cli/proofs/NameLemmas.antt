@@ -1,6 +1,6 @@
 -- Names that begin with a pool: the constants of a mapping by their texts, and its unknowns by their numbers.
-use Rattle.std.proofs.Common.{◌≡◌, ℕ, ◌+◌, ◌-◌, ◌<◌, Some, List, [], ◌∷◌, map, length, get_or, count_by, refl, sym, ap, ◌∙◌, subst, inl, inr, arith, AllPairs, Contains}
-use Rattle.std.specs.Prelude.{slice_get}
+use Rattle.std.proofs.Common.{◌≡◌, ℕ, ◌+◌, ◌-◌, ◌<◌, Some, List, [], ◌∷◌, map, length, get_or, count_by, refl, sym, ap, ◌∙◌, subst, inl, inr, arith, AllPairs, Any, Contains}
+use Rattle.std.specs.Prelude.{slice_get, flat_map}
 use Rattle.std.specs.declared.cmp.Ordering.TheVariants.{Less}
 use Rattle.std.specs.Cmp.{IsTotalOrder}
 use Rattle.std.specs.Ordering.{is_lt}
@@ -14,12 +14,14 @@ use Rattle.term_core.specs.Order.{unknown_cmp}
 use Rattle.rule_core.specs.declared.rules.Arg.{Arg}
 use Rattle.rule_core.specs.declared.rules.Arg.TheVariants as args
 use Rattle.rule_core.specs.declared.rules.Atom.{Atom}
+use Rattle.rule_core.specs.declared.rules.Branch.{Branch}
+use Rattle.rule_core.specs.declared.rules.Query.{Query}
 use Rattle.rule_core.specs.Mapping.{RuleSet}
 use Rattle.rule_core.specs.Terms.{Unknown, numbered, named, TermOf, constant, unknown}
 use Rattle.rule_core.specs.Values.{unknown_value, term_value}
 use Rattle.rule_core.specs.Homomorphism.{term_image}
 use Rattle.rule_core.specs.Rebase.{KeepsTexts}
-use Rattle.rule_core.specs.Renaming.{Renaming, renamed_unknown, renamed_term, HaveConstant, IsRuleConstant}
+use Rattle.rule_core.specs.Renaming.{Renaming, renamed_unknown, renamed_term, HaveConstant, IsRuleConstant, IsQueryConstant}
 use Rattle.rule_core.proofs.ListLemmas.{Contains-nil, Contains-head, Contains-cons, Contains-cons_cases}
 use Rattle.rule_text.specs.Constants.{constants_in, constants_among}
 use Rattle.mapping_core.specs.Mapping.{AnyHasConstant}
@@ -64,6 +66,23 @@ of_mapping rules c (inl has) = inl (
   ],
 )
 of_mapping rules c (inr has) = inr (inl (has.0, has.1, has.2, has.3, in_atoms has.1.body c has.4))
+
+-- and so is one of a query
+in_branches : (branches : List Branch) (c : ConstId) → Any (λ branch. HaveConstant branch.body c) branches
+    → Contains (flat_map (λ branch. constants_among branch.body) branches) c
+in_branches [] c has = absurd (omega (arith, has.2))
+in_branches (branch ∷ branches) c has =
+    let rest = flat_map (λ (b : Branch). constants_among b.body) branches in
+    elim (Contains-cons_cases branch has.1 branches (has.0, has.2, has.3)) [
+      | inl e ↦ Contains-append_left (constants_among branch.body) rest c
+          (in_atoms branch.body c (subst (λ (b : Branch). HaveConstant b.body c) (sym e) has.4))
+      | inr later ↦ Contains-append_right (constants_among branch.body) rest c
+          (in_branches branches c (later.0, has.1, later.1, later.2, has.4))
+    ]
+
+pub of_query : (rules : RuleSet) (query : Query) → Contains rules.queries query → (c : ConstId) → IsQueryConstant query c
+    → AnyHasConstant rules c
+of_query rules query there c is = inr (inr (there.0, query, there.1, there.2, in_branches query.branches c is))
 
 -- names that begin with a pool
 

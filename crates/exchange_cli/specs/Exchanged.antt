@@ -12,6 +12,7 @@ use Rattle.failure_trace.specs.declared.firing.Firing.{Firing}
 use Rattle.failure_trace.specs.Firings.{AreFirings}
 use Rattle.exchange_engine.specs.Loading.{LoadedOf, HasEachConstant, AreFactsOf}
 use Rattle.exchange_engine.specs.Solved.{AreTargetTables, AreCoalesced, AreUniversal, AreWithinPool, AreUnknownsOf, AreCountsOf}
+use Rattle.exchange_engine.specs.Answered.{AreAnswered}
 use Rattle.exchange_engine.specs.declared.outcome.Solved.{Solved}
 use Rattle.exchange_cli.specs.Inputs.{Inputs}
 
@@ -33,6 +34,7 @@ pub record IsSolvedFrom (loaded : LoadedOf) (solved : Solved) : Type 0 where
   pub universal : AreUniversal loaded solved.tables
   pub within : AreWithinPool loaded solved.tables
   pub nulls : AreUnknownsOf solved.tables solved.nulls
+  pub answers : AreAnswered loaded solved.answers
   pub counts : AreCountsOf loaded solved.counts
 
 -- what was read, loaded with some pool, has a normalised table of so many pieces, and so many firings come of that

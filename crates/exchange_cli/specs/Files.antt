@@ -3,6 +3,7 @@ use Rattle.std.specs.Prelude.{◌≡◌, ◌≢◌, ℕ, List, [], ◌∷◌, �
 use Rattle.exchange_cli.specs.Inputs.{Inputs}
 use Rattle.exchange_cli.specs.Names.{verdict_name}
 use Rattle.exchange_cli.specs.Target.{TargetTable, IsTarget, AreTableFiles}
+use Rattle.exchange_cli.specs.Answers.{AreAnswerFiles}
 use Rattle.exchange_cli.specs.Endings.{solved}
 use Rattle.exchange_cli.specs.declared.file.FileOut.{FileOut}
 
@@ -24,13 +25,15 @@ pub record AreTargetFiles (inputs : Inputs) (prefix : List ℕ) (files : List Fi
 -- the files of a solved exchange
 pub record SolvedFiles : Type 0 where
   pub tables : List FileOut
+  pub answers : List FileOut
   pub verdict : FileOut
 
 -- the same, in the order in which they are stored
 abbrev pub in_order : SolvedFiles → List FileOut
-in_order files = files.tables ++ files.verdict ∷ []
+in_order files = files.tables ++ files.answers ++ files.verdict ∷ []
 
--- the groups are those of a solved exchange: the target's tables, and then the verdict
+-- the groups are those of a solved exchange: the target's tables, the answers of the queries, and then the verdict
 pub record AreSolvedFiles (inputs : Inputs) (prefix : List ℕ) (files : SolvedFiles) : Type 0 where
   pub tables : AreTargetFiles inputs prefix files.tables
+  pub answers : AreAnswerFiles inputs prefix files.answers
   pub verdict : IsVerdict prefix solved files.verdict

@@ -15,6 +15,7 @@ use Rattle.exchange_cli.specs.Product.{Makes, IsFindingOf, IsOwnStatus}
 use Rattle.exchange_cli.specs.Endings.{IsDone, IsRefused, status_of, status_found, line_of, printed_of}
 use Rattle.exchange_cli.specs.Work.{Fetch, AreTold, Reads, FailsFirst}
 use Rattle.exchange_cli.specs.Run.{Device, Moment, with_files, Untouched, Stores, Delivers, IsMadeFor, Says}
+use Rattle.exchange_cli.specs.Answers.{AreAnswerFiles}
 use Rattle.exchange_cli.specs.Pieces.{ArePieceFiles}
 use Rattle.exchange_cli.specs.declared.file.FileOut.{FileOut}
 use Rattle.exchange_cli.specs.declared.ending.Finding.TheVariants.{Normalised}
@@ -121,6 +122,13 @@ TargetClause words before after status =
     (origin : Origin) (target : List ℕ) (held : Held) (inputs : Inputs)
     → IsUnhindered words before after status (Exchange origin target) held inputs → status ≡ 0
     → (files : SolvedFiles) × AreSolvedFiles inputs target files × (after.shelf.content ≡ Some (with_files held (in_order files)))
+
+-- and the files of the answers are, in the order of the queries, coalesced, and cover at each instant exactly what is certain there
+abbrev pub AnswersClause : List (List ℕ) → Moment → Moment → ℕ → Type 0
+AnswersClause words before after status =
+    (origin : Origin) (target : List ℕ) (held : Held) (inputs : Inputs)
+    → IsUnhindered words before after status (Exchange origin target) held inputs → status ≡ 0
+    → (files : SolvedFiles) × AreAnswerFiles inputs target files.answers × (after.shelf.content ≡ Some (with_files held (in_order files)))
 
 -- `normalise MAPPING SOURCE OUT`
 

@@ -6,6 +6,7 @@ pub mod Endings
 pub mod Built
 pub mod Inputs
 pub mod Target
+pub mod Answers
 pub mod Rendering
 pub mod Exchanged
 pub mod Files

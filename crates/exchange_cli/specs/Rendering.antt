@@ -5,12 +5,14 @@ use Rattle.term_core.specs.declared.term.Unknown.{Unknown as HeldUnknown}
 use Rattle.term_core.specs.declared.term.Term.{Term}
 use Rattle.term_core.specs.declared.term.Term.TheVariants.{Const, Null}
 use Rattle.term_core.specs.Order.{unknown_cmp}
-use Rattle.rule_core.specs.declared.rules.Relation.{Relation}
+use Rattle.rule_core.specs.Mapping.{RuleSet}
 use Rattle.rule_core.specs.Terms.{numbered, TermOf, constant, unknown}
 use Rattle.exchange_engine.specs.Loading.{text_in}
 use Rattle.exchange_engine.specs.Solved.{TermTable}
 use Rattle.exchange_cli.specs.Target.{TargetTable, AreTableFiles}
-use Rattle.exchange_cli.specs.Endings.{solved}
+use Rattle.exchange_engine.specs.declared.outcome.Solved.{Solved}
+use Rattle.exchange_cli.specs.Answers.{answer_relation}
+use Rattle.exchange_cli.specs.Endings.{solved as solved_text}
 use Rattle.exchange_cli.specs.Files.{SolvedFiles, IsVerdict, in_order}
 use Rattle.exchange_cli.specs.declared.file.FileOut.{FileOut}
 
@@ -27,10 +29,10 @@ stored_term pool nulls (Null u) = unknown (numbered (rank_in nulls u))
 abbrev pub stored_table : List (List ℕ) → List HeldUnknown → TermTable → TargetTable
 stored_table pool nulls table = map (λ e. record { row = map (stored_term pool nulls) e.row; span = e.span }) table
 
--- the tables of the relations as files, in their order, and then the verdict
-pub record AreRendered (pool : List (List ℕ)) (nulls : List HeldUnknown) (relations : List Relation) (tables : List TermTable)
-    (prefix : List ℕ) (files : List FileOut) : Type 0 where
+-- the tables of the relations as files, in their order, the answers of the queries, and then the verdict
+pub record AreRendered (pool : List (List ℕ)) (rules : RuleSet) (solved : Solved) (prefix : List ℕ) (files : List FileOut) : Type 0 where
   pub groups : SolvedFiles
-  pub named : AreTableFiles prefix relations groups.tables (map (stored_table pool nulls) tables)
-  pub verdict : IsVerdict prefix solved groups.verdict
+  pub named : AreTableFiles prefix rules.targets groups.tables (map (stored_table pool solved.nulls) solved.tables)
+  pub answers : AreTableFiles prefix (map answer_relation rules.queries) groups.answers (map (stored_table pool solved.nulls) solved.answers)
+  pub verdict : IsVerdict prefix solved_text groups.verdict
   pub all : files ≡ in_order groups

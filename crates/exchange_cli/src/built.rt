@@ -1,13 +1,12 @@
 //! The form of mapping that an exchange is built for so far.
 
-ghost use Rattle.std.specs.Prelude.{◌↔◌, IsTrue};
-ghost use Rattle.exchange_engine.specs.Solved.{IsPlain};
+ghost use Rattle.std.specs.Prelude.{◌≡◌, ◌↔◌, [], IsTrue};
 
 use rule_core::Rules;
 
-/// Whether the mapping has no egd and no query.
-pub fn is_plain(rules: &Rules) -> bool
-    ensures { IsTrue result ↔ IsPlain rules.now }
+/// Whether the mapping has no egd.
+pub fn has_no_egd(rules: &Rules) -> bool
+    ensures { IsTrue result ↔ (rules.now.egds ≡ []) }
 {
-    rules.egds().is_empty() && rules.queries().is_empty()
+    rules.egds().is_empty()
 }

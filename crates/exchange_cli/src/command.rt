@@ -5,7 +5,7 @@ ghost use Rattle.exchange_cli.specs.Built.{Takes};
 ghost use Rattle.exchange_cli.specs.Words.{Spells, SpellsNone, origin_of};
 ghost use Rattle.exchange_cli.specs.Commands.{command_of, lent_origin};
 
-use crate::built::is_plain;
+use crate::built::has_no_egd;
 use rule_core::Rules;
 
 /// From where a command reads: the name of the mapping, and the prefix of the source's tables.
@@ -40,7 +40,7 @@ impl<'a> Command<'a> {
         ensures { IsTrue result ↔ Takes (command_of self.now) rules.now }
     {
         match self {
-            Command::Exchange(_, _) => is_plain(rules),
+            Command::Exchange(_, _) => has_no_egd(rules),
             Command::Normalise(_, _) => true,
         }
     }

@@ -2,6 +2,7 @@
 //! what an exchange gives is, as it is stored, a target of what was read.
 
 ghost use Rattle.std.specs.Prelude.{◌≡◌, ◌≢◌, ℕ, List, Some, map};
+ghost use Rattle.std.specs.List.{AllZip};
 ghost use Rattle.shelf_core.specs.Held.{Held};
 ghost use Rattle.rule_core.specs.Validity.{IsValid};
 ghost use Rattle.exchange_engine.specs.Loading.{LoadedOf};
@@ -9,6 +10,7 @@ ghost use Rattle.exchange_engine.specs.declared.outcome.Solved.{Solved};
 ghost use Rattle.exchange_cli.specs.Words.{Command};
 ghost use Rattle.exchange_cli.specs.Rendering.{stored_table};
 ghost use Rattle.exchange_cli.specs.Exchanged.{IsLoadedFrom, IsSolvedFrom};
+ghost use Rattle.exchange_cli.specs.Answers.{HasCertain};
 ghost use Rattle.exchange_cli.specs.Inputs.{Inputs};
 ghost use Rattle.exchange_cli.specs.Target.{IsTarget};
 ghost use Rattle.exchange_cli.specs.Files.{HaveDistinctNames};
@@ -83,6 +85,24 @@ pub fn stored_tables_are_a_target()
     instances_are_read_as_sets();
     renumbered_rules_say_the_same();
     unknowns_may_be_told_otherwise();
+    rows_in_the_same_order_stay_coalesced();
+    rows_of_a_table_are_its_facts();
+}
+
+/// Answers that an exchange gives are, as they are stored, exactly what is certain of what was read, over all constants.
+pub fn stored_answers_are_certain()
+    ensures { (inputs : Inputs) (loaded : LoadedOf) (solved : Solved)
+        → IsLoadedFrom inputs loaded → IsSolvedFrom loaded solved
+        → AllZip (HasCertain inputs) inputs.mapping.rules.queries
+        (map (stored_table loaded.pool solved.nulls) solved.answers) }
+{
+    unknowns_have_one_order();
+    ids_are_ordered_as_their_texts();
+    snapshots_hold_what_is_covered();
+    a_renaming_keeps_what_holds();
+    a_pool_begins_a_renaming();
+    instances_are_read_as_sets();
+    renumbered_rules_say_the_same();
     rows_in_the_same_order_stay_coalesced();
     rows_of_a_table_are_its_facts();
 }

@@ -6,11 +6,12 @@ ghost use Rattle.term_core.specs.Order.{unknown_cmp};
 ghost use Rattle.temporal_csv.specs.Cells.{term_of};
 ghost use Rattle.temporal_csv.specs.Stored.{stamped_row};
 ghost use Rattle.exchange_engine.specs.Solved.{AreTargetTables, AreWithinPool, IsTermWithin};
+ghost use Rattle.exchange_cli.specs.Answers.{answer_relation};
 ghost use Rattle.exchange_cli.specs.Rendering.{AreRendered, rank_in, stored_table, stored_term};
 ghost use Rattle.exchange_cli.specs.Target.{AreTableFiles};
 
 use crate::file::FileOut;
-use crate::storing::{table_file, verdict};
+use crate::storing::{answer_file, table_file, verdict};
 use coalescer::Stamped;
 use exchange_engine::{Loaded, Solved};
 use std::alloc::Global;
@@ -18,7 +19,8 @@ use temporal_csv::{Cell, OutRow};
 use term_core::laws::unknowns_have_one_order;
 use term_core::{Items, Memory, Pool, Term, Text, Unknown};
 
-/// The files of a target, in the order in which they are stored: a table for each relation, and then the verdict.
+/// The files of a target, in the order in which they are stored: a table for each relation, the answers of each query, and then
+/// the verdict.
 pub fn render(
     alloc: Global,
     loaded: &Loaded,
@@ -27,12 +29,41 @@ pub fn render(
 ) -> Result<Items<FileOut>, Memory>
     requires tables { AreTargetTables loaded.now.rules.targets solved.now.tables }
     requires within { AreWithinPool loaded.now solved.now.tables }
+    requires answers { AreTargetTables (map answer_relation loaded.now.rules.queries) solved.now.answers }
+    requires answers_within { AreWithinPool loaded.now solved.now.answers }
     requires ascending { AllPairs (λ u w. unknown_cmp u w ≡ Less) solved.now.nulls }
-    ensures { IfOk result (AreRendered loaded.now.pool solved.now.nulls loaded.now.rules.targets
-        solved.now.tables target.now) }
+    ensures { IfOk result (AreRendered loaded.now.pool loaded.now.rules solved.now target.now) }
 {
-    let mut files = table_files(alloc, loaded, solved, target)?;
+    let mut files = table_files(alloc, loaded, solved, target)?.into_vec();
+    let mut answers = answer_files(alloc, loaded, solved, target)?.into_vec();
+    files.append(&mut answers)?;
     files.push(verdict(alloc, target)?)?;
+    Ok(Items::from_vec(files))
+}
+
+// The files of the answers, in the order of the queries.
+fn answer_files(
+    alloc: Global,
+    loaded: &Loaded,
+    solved: &Solved,
+    target: &str,
+) -> Result<Items<FileOut>, Memory>
+    requires answers { AreTargetTables (map answer_relation loaded.now.rules.queries) solved.now.answers }
+    requires within { AreWithinPool loaded.now solved.now.answers }
+    requires ascending { AllPairs (λ u w. unknown_cmp u w ≡ Less) solved.now.nulls }
+    ensures { IfOk result (λ files. AreTableFiles target.now
+        (map answer_relation loaded.now.rules.queries) files
+        (map (stored_table loaded.now.pool solved.now.nulls) solved.now.answers)) }
+{
+    loaded.rules.is_kept();
+    let nulls = solved.nulls.as_slice();
+    let queries = loaded.rules.queries().as_slice();
+    let answers = solved.answers.as_slice();
+    let mut files = Items::new(alloc);
+    for (place, list) in answers.iter().enumerate() {
+        let rows = stored_rows(alloc, &loaded.pool, nulls, list.as_slice())?;
+        files.push(answer_file(alloc, target, &queries[place], &rows)?)?;
+    }
     Ok(files)
 }
 

@@ -1,15 +1,17 @@
 //! The files of a solved exchange.
 
 ghost use Rattle.std.specs.Prelude.{◌≡◌, map, All, IfOk};
+ghost use Rattle.rule_core.specs.Names.{IsName};
 ghost use Rattle.rule_core.specs.Validity.{IsRelation};
 ghost use Rattle.temporal_csv.specs.Stored.{AreNumbered, IsAsWideAs, header_of, stamped_row};
+ghost use Rattle.exchange_cli.specs.Answers.{answer_relation};
 ghost use Rattle.exchange_cli.specs.Target.{IsTableFile, TargetTable};
 ghost use Rattle.exchange_cli.specs.Files.{IsVerdict};
 ghost use Rattle.exchange_cli.specs.Endings.{solved};
 
 use crate::file::FileOut;
-use crate::file_names::{name_table, name_verdict};
-use rule_core::Relation;
+use crate::file_names::{name_answers, name_table, name_verdict};
+use rule_core::{Query, Relation};
 use shelf_core::Bytes;
 use std::alloc::Global;
 use temporal_csv::{OutRow, write_table};
@@ -32,6 +34,27 @@ pub fn table_file(
     let bytes = write_table(alloc, &header, rows)?;
     Ok(FileOut {
         name: name_table(alloc, target, &relation.name)?,
+        bytes: Bytes::from_vec(bytes.into_vec()),
+    })
+}
+
+/// The file of the answers of a query, with these rows.
+pub fn answer_file(
+    alloc: Global,
+    target: &str,
+    query: &Query,
+    rows: &Items<OutRow>,
+) -> Result<FileOut, Memory>
+    requires names { All IsName query.now.head }
+    requires widths { All (IsAsWideAs (header_of query.now.head)) rows.now }
+    requires numbers { All AreNumbered rows.now }
+    ensures { IfOk result (λ file. (table : TargetTable) → rows.now ≡ map stamped_row table
+        → IsTableFile target.now (answer_relation query.now) file table) }
+{
+    let header = header_texts(alloc, &query.head)?;
+    let bytes = write_table(alloc, &header, rows)?;
+    Ok(FileOut {
+        name: name_answers(alloc, target, &query.name)?,
         bytes: Bytes::from_vec(bytes.into_vec()),
     })
 }

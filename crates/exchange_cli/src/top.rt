@@ -4,7 +4,7 @@ ghost use Rattle.std.specs.Prelude.{◌≡◌, map, string_bytes};
 ghost use Rattle.exchange_cli.specs.Words.{SpellsNone};
 ghost use Rattle.exchange_cli.specs.Run.{device, seen, Causes, Ends, Says};
 ghost use Rattle.exchange_cli.specs.Endings.{line_of};
-ghost use Rattle.exchange_cli.specs.Headline.{WordsClause, AnswerClause, RefusalClause, CompletesClause, OutputClause, StoreClause, StatusClause, TargetClause, PiecesClause};
+ghost use Rattle.exchange_cli.specs.Headline.{WordsClause, AnswerClause, RefusalClause, CompletesClause, OutputClause, StoreClause, StatusClause, TargetClause, AnswersClause, PiecesClause};
 
 use crate::command::read_words;
 use crate::delivery::deliver;
@@ -63,6 +63,9 @@ pub fn run<S: Shelf, O: Sink, E: Sink>(
         (seen S.holds S.faults O.text O.faults shelf.old out.old)
         (seen S.holds S.faults O.text O.faults shelf.new out.new) result }
     ensures target { TargetClause (map string_bytes words.now.items)
+        (seen S.holds S.faults O.text O.faults shelf.old out.old)
+        (seen S.holds S.faults O.text O.faults shelf.new out.new) result }
+    ensures answers { AnswersClause (map string_bytes words.now.items)
         (seen S.holds S.faults O.text O.faults shelf.old out.old)
         (seen S.holds S.faults O.text O.faults shelf.new out.new) result }
 

@@ -6,3 +6,4 @@ pub mod UnknownLemmas
 pub mod GatheredLemmas
 pub mod FactLemmas
 pub mod LoadedLemmas
+pub mod AnsweredLemmas

@@ -21,6 +21,8 @@ pub struct Counts {
 pub struct Solved {
     /// A table for each target relation, in their order.
     pub tables: Items<Items<Stamped>>,
+    /// The answers of each query, in their order.
+    pub answers: Items<Items<Stamped>>,
     /// The unknowns of the tables, ascending. Unknown number n is at place n - 1.
     pub nulls: Items<Unknown>,
     /// How much was done.

@@ -1,13 +1,12 @@
 -- One binding more.
-use Rattle.std.proofs.Common.{◌≡◌, ℕ, ◌+◌, ◌<◌, List, [], ◌∷◌, ◌++◌, map, length, take, get_or, refl, sym, ap, ◌∙◌, subst, arith, All}
-use Rattle.std.proofs.lemmas.List.{take_more, map_push, length-map, length_push, length-append, append_assoc}
+use Rattle.std.proofs.Common.{◌≡◌, ℕ, ◌+◌, ◌<◌, List, [], ◌∷◌, ◌++◌, map, length, take, get_or, sym, ap, ◌∙◌, subst, arith, All}
+use Rattle.std.proofs.lemmas.List.{take_more, map_push, length-map, length_push, append_assoc}
 use Rattle.std.specs.List.{range_with_len}
 use Rattle.std.proofs.lemmas.List.FromFn.{map-range_with_len_more}
 use Rattle.std.proofs.lemmas.List.Elements.{All-push}
 use Rattle.rule_core.specs.Names.{IsName}
 use Rattle.failure_trace.specs.declared.trace.Value.{Value}
 use Rattle.failure_trace.specs.declared.trace.Bound.{Bound}
-use Rattle.failure_trace.specs.Trace.{names_in}
 use Rattle.failure_trace.specs.Printed.{IsWritableValue, IsWritableBound}
 use Rattle.failure_trace.specs.Projected.{BindsFirst}
 

@@ -1,9 +1,8 @@
 -- The unknowns of the firings at an instant as they are listed, and the number of one among sorted ones.
-use Rattle.std.proofs.Common.{◌≡◌, ℕ, ℤ, zero, suc, ◌+◌, ◌<◌, ◌≤◌, Bool, true, false, cond, Some, List, [], ◌∷◌, ◌++◌, map, filter, length, take, get_or, count_by, refl, sym, ap, ◌∙◌, subst, arith, All, flat_map, slice_get}
+use Rattle.std.proofs.Common.{◌≡◌, ℕ, ℤ, zero, suc, ◌+◌, ◌<◌, ◌≤◌, Bool, true, false, cond, Some, List, [], ◌∷◌, ◌++◌, map, filter, length, take, get_or, count_by, refl, sym, ap, ◌∙◌, arith, flat_map, slice_get}
 use Rattle.std.specs.List.{range_with_len}
 use Rattle.std.specs.Option.{option_map_or}
-use Rattle.std.specs.Bool.{Decides}
-use Rattle.std.proofs.lemmas.List.{append-nil, append_assoc, take_more, map_push}
+use Rattle.std.proofs.lemmas.List.{append-nil, append_assoc}
 use Rattle.std.proofs.lemmas.List.Sums.{sum_by-cons}
 use Rattle.std.proofs.lemmas.List.Elements.{filter_more}
 use Rattle.std.proofs.lemmas.List.Concat.{flat_map-append}

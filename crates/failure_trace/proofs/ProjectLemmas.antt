@@ -1,5 +1,5 @@
 -- The whole trace of one instant, whose unknowns are numbered among sorted ones.
-use Rattle.std.proofs.Common.{◌≡◌, ℕ, ℤ, ◌+◌, cond, Option, Some, None, List, [], ◌∷◌, ◌++◌, map, refl, sym, ap, ◌∙◌, subst, IsSomeAnd, IsPermutation, slice_get, All}
+use Rattle.std.proofs.Common.{◌≡◌, ℕ, ℤ, ◌+◌, cond, Option, Some, None, List, [], ◌∷◌, ◌++◌, map, refl, ap, ◌∙◌, subst, IsSomeAnd, IsPermutation, slice_get}
 use Rattle.std.specs.List.{AllZip}
 use Rattle.std.specs.Ordering.{is_lt}
 use Rattle.std.proofs.lemmas.List.{append_assoc}

@@ -1,26 +1,22 @@
 -- A step of a trace that tells a firing or a step of a journal, and lists of them.
-use Rattle.std.proofs.Common.{◌≡◌, ℕ, ℤ, ◌+◌, ◌-◌, ◌<◌, ◌≤◌, Some, List, [], ◌∷◌, ◌++◌, map, filter, length, take, get_or, refl, sym, ap, ◌∙◌, subst, arith, All, Contains, IsSomeAnd, slice_get}
-use Rattle.std.specs.List.{AllZip, range_with_len}
-use Rattle.std.proofs.lemmas.List.{length-append, length-map, append_assoc, take_all}
-use Rattle.std.proofs.lemmas.List.Elements.{AllZip-push, All-push, All-contains}
+use Rattle.std.proofs.Common.{◌≡◌, ℕ, ℤ, ◌-◌, Some, List, map, length, refl, sym, ◌∙◌, subst, arith, All, Contains, IsSomeAnd, slice_get}
+use Rattle.std.specs.List.{range_with_len}
+use Rattle.std.proofs.lemmas.List.{length-append, length-map, take_all}
+use Rattle.std.proofs.lemmas.List.Elements.{All-contains}
 use Rattle.std.proofs.lemmas.List.FromFn.{length-range_with_len}
-use Rattle.time_line.specs.Span.{Ends, Has, has}
+use Rattle.time_line.specs.Span.{Has}
 use Rattle.term_core.specs.declared.term.Unknown.{Unknown as HeldUnknown}
-use Rattle.rule_core.specs.declared.rules.Relation.{Relation}
 use Rattle.rule_core.specs.declared.rules.Tgd.{Tgd}
-use Rattle.rule_core.specs.declared.rules.Egd.{Egd}
 use Rattle.rule_core.specs.Names.{IsName}
 use Rattle.rule_core.specs.Mapping.{RuleSet}
-use Rattle.rule_core.specs.Validity.{IsTgd, IsEgd}
+use Rattle.rule_core.specs.Validity.{IsTgd}
 use Rattle.failure_trace.specs.declared.firing.Firing.{Firing}
 use Rattle.failure_trace.specs.declared.firing.Support.{Support}
-use Rattle.failure_trace.specs.declared.journal.JournalStep.{JournalStep}
 use Rattle.failure_trace.specs.declared.trace.Value.{Value}
 use Rattle.failure_trace.specs.declared.trace.Value.TheVariants.{Const, Null}
 use Rattle.failure_trace.specs.declared.trace.Bound.{Bound}
 use Rattle.failure_trace.specs.declared.trace.StepKind.{StepKind}
 use Rattle.failure_trace.specs.declared.trace.StepKind.TheVariants.{Tgd as TgdStep}
-use Rattle.failure_trace.specs.declared.trace.TraceStep.{TraceStep}
 use Rattle.failure_trace.specs.Printed.{IsWritableStep}
 use Rattle.failure_trace.specs.Projected.{pool_text, number_among, exists_unknowns, firing_values, FitsBody, CanTellFiring, TellsFiring, Tells, BindsFirst}
 use Rattle.failure_trace.proofs.BindingLemmas.{told_size}

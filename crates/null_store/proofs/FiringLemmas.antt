@@ -1,6 +1,6 @@
 -- What a store is when the rows and the pieces of a firing are added.
 use Rattle.std.proofs.Common.{◌≡◌, ◌≢◌, ℕ, ◌+◌, ◌-◌, ◌<◌, ◌≤◌, ◌==◌, Option, Some, None, List, ◌++◌, length, map, get_or, refl, sym, ap, ◌∙◌, subst, arith, ⊎_elim, All, Contains}
-use Rattle.std.specs.Prelude.{slice_get, position, IsSomeAnd}
+use Rattle.std.specs.Prelude.{slice_get, position, IsSomeAnd, IsPermutation}
 use Rattle.std.specs.Option.{option_and_then, option_map, option_map_or}
 use Rattle.std.proofs.lemmas.Bool.{cases_lt, eqb-true}
 use Rattle.std.proofs.lemmas.List.{length-map, get_or_default}
@@ -27,7 +27,7 @@ use Rattle.fact_table.specs.Rows.{SeenRow, row_at}
 use Rattle.null_store.specs.declared.piece.NamedPiece.{NamedPiece}
 use Rattle.null_store.specs.Store.{NameOf, PieceOf, Spare, Store, piece_at, term_in, fact_in, facts_in, IsLiveOver, IsStore}
 use Rattle.null_store.specs.Changes.{IsFresh}
-use Rattle.null_store.specs.Layout.{unknown_in, with_name, piece_of, cell_of, row_for, HasFrontierValues, piece_for, IsPieceOf, AddsPieces}
+use Rattle.null_store.specs.Layout.{unknown_in, with_name, piece_of, cell_of, row_for, HasFrontierValues, piece_for, IsPieceOf, AddsPieces, AddsRows}
 use Rattle.null_store.proofs.ListLemmas.{some_and, and_some, same_some, held_at, held_behind, stands, map_alike, map_map, held_contains, contains_map, at_map, at_from_contains}
 use Rattle.null_store.proofs.GrowthLemmas.{before, grown, facts_grow, grown_is_store}
 
@@ -46,7 +46,7 @@ no_value tgd values v h = by (position (λ w. w == v) (frontier_of tgd)) refl
 module _ (tgd : Tgd) (n : NameOf) (name : ℕ) (span : Ends) (names : List NameOf) (is_named : slice_get names name ≡ Some n)
     (values : List Seen) (old more : List NamedPiece) (safe : All (λ (atom : Atom). All (IsWithin (length tgd.vars)) atom.args) tgd.head)
     (has : HasFrontierValues tgd n.frontier values) (adds : AddsPieces tgd name span old more values (length tgd.vars))
-    (rows : List (Option SeenRow)) (spare room : Spare) where
+    (rows later : List (Option SeenRow)) (spare room : Spare) where
   abbrev pieces : List (Option PieceOf)
   pieces = map (piece_of names) old
 
@@ -57,10 +57,10 @@ module _ (tgd : Tgd) (n : NameOf) (name : ℕ) (span : Ends) (names : List NameO
   new_rows = map (row_for values span) tgd.head
 
   abbrev store : Store
-  store = before rows pieces names spare room new_rows new_pieces
+  store = before rows later pieces names spare room new_pieces
 
   abbrev after : Store
-  after = grown rows pieces names spare room new_rows new_pieces
+  after = grown rows later pieces names spare room new_pieces
 
   -- the piece of an `exists` variable
   abbrev made : ℕ → PieceOf
@@ -199,8 +199,10 @@ module _ (tgd : Tgd) (n : NameOf) (name : ℕ) (span : Ends) (names : List NameO
         λ t in_a in_b. none
         (t, subst (λ (s : Ends). Has s t) spans in_a, subst (λ (s : Ends). Has s t) over in_b) (x.0 - tgd.body_vars) held
 
-    pub store_after : IsStore after
-    store_after = grown_is_store rows pieces names spare room new_rows new_pieces ok new_live new_used new_fresh new_apart
+    module _ (added : AddsRows rows later new_rows) where
+      pub store_after : IsStore after
+      store_after = grown_is_store rows later pieces names spare room new_pieces ok new_rows added new_live new_used new_fresh new_apart
 
-    pub facts_after : facts_in after ≡ facts_in store ++ map stamped (fired_facts (λ c. c) n.rule tgd n.frontier)
-    facts_after = facts_grow rows pieces names spare room new_rows new_pieces ok ∙ ap (λ l. facts_in store ++ l) new_facts
+      pub facts_after : IsPermutation (facts_in store ++ map stamped (fired_facts (λ c. c) n.rule tgd n.frontier)) (facts_in after)
+      facts_after = subst (λ l. IsPermutation (facts_in store ++ l) (facts_in after)) new_facts
+          (facts_grow rows later pieces names spare room new_pieces ok new_rows added)

@@ -1,8 +1,11 @@
--- A store to which rows and pieces are added behind the others.
-use Rattle.std.proofs.Common.{◌≡◌, ◌≢◌, ℕ, ◌+◌, Option, Some, List, ◌++◌, length, map, refl, sym, ap, ◌∙◌, subst, ⊎_elim, All, Contains}
-use Rattle.std.specs.Prelude.{slice_get, IsSomeAnd}
-use Rattle.std.specs.Option.{option_map, option_map_or}
-use Rattle.std.proofs.lemmas.List.Elements.{All-weaker, All-contains, filter_map-append}
+-- A store to which rows are added, and pieces behind the others.
+use Rattle.std.proofs.Common.{◌≡◌, ◌≢◌, ◌⊎◌, ℕ, ◌+◌, Option, Some, List, ◌++◌, length, map, refl, sym, ap, ◌∙◌, subst, ⊎_elim, All, Contains}
+use Rattle.std.specs.Prelude.{slice_get, IsSomeAnd, IsPermutation}
+use Rattle.std.specs.List.{filter_map}
+use Rattle.std.specs.Option.{option_map_or}
+use Rattle.std.proofs.lemmas.List.{map-append}
+use Rattle.std.proofs.lemmas.List.Elements.{All-weaker, All-contains}
+use Rattle.std.proofs.lemmas.List.Sorted.{IsPermutation-map, IsPermutation-sym, Contains-permutation}
 use Rattle.time_line.specs.Span.{Ends, AreApart}
 use Rattle.term_core.specs.declared.term.Seen.{Seen}
 use Rattle.term_core.specs.declared.term.Seen.TheVariants.{Const, Piece}
@@ -10,16 +13,17 @@ use Rattle.rule_core.specs.Terms.{numbered, unknown}
 use Rattle.rule_core.specs.Values.{unknown_value}
 use Rattle.fact_table.specs.Rows.{SeenRow, row_at}
 use Rattle.null_store.specs.Store.{NameOf, PieceOf, Spare, Store, piece_at, term_in, fact_in, facts_in, IsLiveOver, HoldsPiece, IsStore}
-use Rattle.null_store.proofs.ListLemmas.{some_and, and_some, held_at, held_front, held_behind, held_cases, held_some, some_held, map_alike, held_alike, held_all, contains_from_at}
+use Rattle.null_store.specs.Layout.{AddsRows}
+use Rattle.null_store.proofs.ListLemmas.{some_and, and_some, held_at, held_front, held_cases, map_alike, held_alike, held_map_all, held_one, held_place, contains_either, contains_right, contains_from_at}
 
-module _ (rows : List (Option SeenRow)) (pieces : List (Option PieceOf)) (names : List NameOf) (spare room : Spare)
-    (new : List SeenRow) (more : List (Option PieceOf)) where
+module _ (rows later : List (Option SeenRow)) (pieces : List (Option PieceOf)) (names : List NameOf) (spare room : Spare)
+    (more : List (Option PieceOf)) where
   -- the store before, and with what is added
   abbrev pub before : Store
   before = record { rows = rows; pieces = pieces; names = names; spare = spare }
 
   abbrev pub grown : Store
-  grown = record { rows = rows ++ map Some new; pieces = pieces ++ more; names = names; spare = room }
+  grown = record { rows = later; pieces = pieces ++ more; names = names; spare = room }
 
   -- a live piece stays live, over the same span
   live_stays : (span : Ends) (seen : Seen) → IsLiveOver before span seen → IsLiveOver grown span seen
@@ -36,7 +40,7 @@ module _ (rows : List (Option SeenRow)) (pieces : List (Option PieceOf)) (names 
       let same = held_front pieces more p piece.0 piece.1 ∙ sym piece.1 in
       ap (λ (o : Option PieceOf). option_map_or (λ q. unknown (unknown_value q.unknown)) o (unknown (numbered p))) same
 
-  module _ (ok : IsStore before) where
+  module _ (ok : IsStore before) (new : List SeenRow) (adds : AddsRows rows later new) where
     fact_stays : (number : ℕ) (row : SeenRow) → row_at rows number ≡ Some row → fact_in grown row ≡ fact_in before row
     fact_stays number row e =
         let cells = map_alike (term_in grown) (term_in before) row.cells
@@ -44,11 +48,31 @@ module _ (rows : List (Option SeenRow)) (pieces : List (Option PieceOf)) (names 
         (ok.live number row e)) in
         λ i. record { row = record { relation = row.relation; terms = cells i }; span = row.span }
 
-    -- the facts of the new rows stand behind those of the others
-    pub facts_grow : facts_in grown ≡ facts_in before ++ map (fact_in grown) new
+    -- the facts of the new rows are there too
+    pub facts_grow : IsPermutation (facts_in before ++ map (fact_in grown) new) (facts_in grown)
     facts_grow =
-        filter_map-append (option_map (fact_in grown)) rows (map Some new)
-        ∙ (λ i. held_alike (fact_in grown) (fact_in before) rows fact_stays i ++ held_all (fact_in grown) new i)
+        let whole = IsPermutation-map (fact_in grown) (filter_map (λ (r : Option SeenRow). r) rows ++ new)
+        (filter_map (λ (r : Option SeenRow). r) later) adds.rows in
+        let old = map-append (fact_in grown) (filter_map (λ (r : Option SeenRow). r) rows) new
+        ∙ ap (λ l. l ++ map (fact_in grown) new)
+        (sym (held_map_all (fact_in grown) rows) ∙ held_alike (fact_in grown) (fact_in before) rows fact_stays) in
+        subst (λ l. IsPermutation l (facts_in grown)) old
+        (subst (IsPermutation (map (fact_in grown) (filter_map (λ (r : Option SeenRow). r) rows ++ new)))
+        (sym (held_map_all (fact_in grown) later)) whole)
+
+    -- a row is one of the others, or new
+    row_cases : (number : ℕ) (row : SeenRow) → row_at later number ≡ Some row
+        → ((n : ℕ) × (row_at rows n ≡ Some row)) ⊎ Contains new row
+    row_cases number row e = contains_either rows new row
+        (Contains-permutation (filter_map (λ (r : Option SeenRow). r) later) (filter_map (λ (r : Option SeenRow). r) rows ++ new) row
+        (IsPermutation-sym (filter_map (λ (r : Option SeenRow). r) rows ++ new) (filter_map (λ (r : Option SeenRow). r) later) adds.rows)
+        (held_one later number row e))
+
+    -- a new row has a number
+    new_place : (row : SeenRow) → Contains new row → (n : ℕ) × (row_at later n ≡ Some row)
+    new_place row c = held_place later row
+        (Contains-permutation (filter_map (λ (r : Option SeenRow). r) rows ++ new) (filter_map (λ (r : Option SeenRow). r) later) row adds.rows
+        (contains_right (filter_map (λ (r : Option SeenRow). r) rows) new row c))
 
     module _ (live : All (λ (row : SeenRow). All (IsLiveOver grown row.span) row.cells) new)
         (used : (k : ℕ) (piece : PieceOf) → held_at more k ≡ Some piece
@@ -59,12 +83,10 @@ module _ (rows : List (Option SeenRow)) (pieces : List (Option PieceOf)) (names 
         → j ≢ k → AreApart a.span b.span) where
       grown_live : (number : ℕ) (row : SeenRow) → row_at grown.rows number ≡ Some row → All (IsLiveOver grown row.span) row.cells
       grown_live number row e = ⊎_elim
-          (λ old. All-weaker (IsLiveOver before row.span) (IsLiveOver grown row.span) (live_stays row.span) row.cells
-          (ok.live number row old))
-          (λ (h : (k : ℕ) × (number ≡ length rows + k) × (held_at (map Some new) k ≡ Some row)).
-          All-contains (λ (r : SeenRow). All (IsLiveOver grown r.span) r.cells) new row live
-          (contains_from_at new h.0 row (some_held new h.0 row h.2)))
-          (held_cases rows (map Some new) number row e)
+          (λ (old : (n : ℕ) × (row_at rows n ≡ Some row)).
+          All-weaker (IsLiveOver before row.span) (IsLiveOver grown row.span) (live_stays row.span) row.cells (ok.live old.0 row old.1))
+          (λ (h : Contains new row). All-contains (λ (r : SeenRow). All (IsLiveOver grown r.span) r.cells) new row live h)
+          (row_cases number row e)
 
       grown_used : (number : ℕ) (piece : PieceOf) → piece_at grown number ≡ Some piece → HoldsPiece grown number
       grown_used number piece e = ⊎_elim
@@ -72,14 +94,14 @@ module _ (rows : List (Option SeenRow)) (pieces : List (Option PieceOf)) (names 
           let row = some_and (λ (r : SeenRow). Contains r.cells (Piece number)) (row_at rows h.0) h.1 in (
             h.0,
             and_some (λ (r : SeenRow). Contains r.cells (Piece number)) (row_at grown.rows h.0) row.0
-                (held_front rows (map Some new) h.0 row.0 row.1) row.2,
+                (adds.kept h.0 row.0 row.1) row.2,
           ))
           (λ (h : (k : ℕ) × (number ≡ length pieces + k) × (held_at more k ≡ Some piece)).
           let n = used h.0 piece h.2 in
-          let row = some_and (λ (r : SeenRow). Contains r.cells (Piece (length pieces + h.0))) (slice_get new n.0) n.1 in (
-            length rows + n.0,
-            and_some (λ (r : SeenRow). Contains r.cells (Piece number)) (row_at grown.rows (length rows + n.0)) row.0
-                (held_behind rows (map Some new) n.0 row.0 (held_some new n.0 row.0 row.1))
+          let row = some_and (λ (r : SeenRow). Contains r.cells (Piece (length pieces + h.0))) (slice_get new n.0) n.1 in
+          let place = new_place row.0 (contains_from_at new n.0 row.0 row.1) in (
+            place.0,
+            and_some (λ (r : SeenRow). Contains r.cells (Piece number)) (row_at grown.rows place.0) row.0 place.1
                 (subst (λ p. Contains row.0.cells (Piece p)) (sym h.1) row.2),
           ))
           (held_cases pieces more number piece e)

@@ -1,10 +1,14 @@
 pub mod ListLemmas
+pub mod LinkLemmas
+pub mod ViewLemmas
+pub mod OccurrenceLemmas
 pub mod RowLemmas
 pub mod NameLemmas
 pub mod StoreLemmas
 pub mod FrontierLemmas
 pub mod PieceLemmas
 pub mod GrowthLemmas
+pub mod ThereLemmas
 pub mod FiringLemmas
 pub mod SoundLemmas
 pub mod LawLemmas

@@ -1,11 +1,12 @@
 -- Lists by what stands at a place, where a place may be empty.
-use Rattle.std.proofs.Common.{◌≡◌, ◌⊎◌, inl, inr, ℕ, zero, suc, ◌+◌, ◌-◌, ◌<◌, ◌≤◌, Option, Some, None, List, [], ◌∷◌, ◌++◌, length, map, get_or, refl, sym, ap, ◌∙◌, subst, arith, ⊎_elim, All, Contains}
-use Rattle.std.specs.Prelude.{slice_get, IsSomeAnd}
+use Rattle.std.proofs.Common.{◌≡◌, ◌≢◌, ◌⊎◌, inl, inr, ℕ, zero, suc, ◌+◌, ◌-◌, ◌<◌, ◌≤◌, Option, Some, None, List, [], ◌∷◌, ◌++◌, length, map, get_or, set, refl, sym, ap, ◌∙◌, subst, arith, ⊎_elim, All, Contains}
+use Rattle.std.specs.Prelude.{slice_get, IsSomeAnd, IsPermutation}
 use Rattle.std.specs.List.{filter_map}
 use Rattle.std.specs.Option.{option_and_then, option_map}
 use Rattle.std.proofs.lemmas.Bool.{cases_lt}
 use Rattle.std.proofs.lemmas.Option.{slice_get_within}
 use Rattle.std.proofs.lemmas.List.Elements.{All-head, All-tail}
+use Rattle.std.proofs.lemmas.List.Sorted.{IsPermutation-refl, IsPermutation-trans, IsPermutation-cons, IsPermutation-to_front, IsPermutation-middle, IsPermutation-sym}
 
 -- what is there, with what holds of it
 pub some_and : {X : Type 0} (P : X → Type 0) (o : Option X) → IsSomeAnd o P → (x : X) × (o ≡ Some x) × P x
@@ -73,17 +74,6 @@ module _ {X : Type 0} (xs ys : List (Option X)) where
       inr (n - length xs, place, sym (ap (option_and_then (λ y. y)) (behind xs ys n (n - length xs) place)) ∙ e))
       (cases_lt n (length xs))
 
--- in a list with no empty place
-pub held_some : {X : Type 0} (xs : List X) (k : ℕ) (x : X) → slice_get xs k ≡ Some x → held_at (map Some xs) k ≡ Some x
-held_some [] k x e = absurd cc
-held_some (y ∷ ys) zero x e = e
-held_some (y ∷ ys) (suc k) x e = held_some ys k x e
-
-pub some_held : {X : Type 0} (xs : List X) (k : ℕ) (x : X) → held_at (map Some xs) k ≡ Some x → slice_get xs k ≡ Some x
-some_held [] k x e = absurd cc
-some_held (y ∷ ys) zero x e = e
-some_held (y ∷ ys) (suc k) x e = some_held ys k x e
-
 -- a list is mapped alike by functions that agree on it
 pub map_alike : {X Y : Type 0} (f g : X → Y) (xs : List X) → All (λ x. f x ≡ g x) xs → map f xs ≡ map g xs
 map_alike f g [] h = refl
@@ -106,9 +96,109 @@ held_alike f g (Some x ∷ xs) h =
     let rest = held_alike f g xs (λ n y e. h (suc n) y e) in
     λ i. first i ∷ rest i
 
-pub held_all : {X Y : Type 0} (f : X → Y) (xs : List X) → filter_map (option_map f) (map Some xs) ≡ map f xs
-held_all f [] = refl
-held_all f (x ∷ xs) = let rest = held_all f xs in λ i. f x ∷ rest i
+pub held_map_all : {X Y : Type 0} (f : X → Y) (xs : List (Option X))
+    → filter_map (option_map f) xs ≡ map f (filter_map (λ (o : Option X). o) xs)
+held_map_all f [] = refl
+held_map_all f (None ∷ xs) = held_map_all f xs
+held_map_all f (Some x ∷ xs) = ap (λ l. f x ∷ l) (held_map_all f xs)
+
+-- what is held is told with its place
+pub held_one : {X : Type 0} (xs : List (Option X)) (n : ℕ) (x : X) → held_at xs n ≡ Some x → Contains (filter_map (λ (o : Option X). o) xs) x
+held_one [] n x e = absurd cc
+held_one (None ∷ xs) zero x e = absurd cc
+held_one (None ∷ xs) (suc n) x e = held_one xs n x e
+held_one {X} (Some y ∷ xs) zero x e = let same : y ≡ x = cc in (0, omega arith, same)
+held_one (Some y ∷ xs) (suc n) x e = let c = held_one xs n x e in (suc c.0, omega (arith, c.1), c.2)
+
+pub held_place : {X : Type 0} (xs : List (Option X)) (x : X) → Contains (filter_map (λ (o : Option X). o) xs) x
+    → (n : ℕ) × (held_at xs n ≡ Some x)
+held_place {X} xs x c = by xs c.0 c.1 c.2
+  where
+    by : (ys : List (Option X)) (k : ℕ) → k < length (filter_map (λ (o : Option X). o) ys)
+        → get_or (filter_map (λ (o : Option X). o) ys) k x ≡ x → (n : ℕ) × (held_at ys n ≡ Some x)
+    by [] k l e = absurd (omega arith)
+    by (None ∷ ys) k l e = let n = by ys k l e in (suc n.0, n.1)
+    by (Some y ∷ ys) zero l e = (0, ap Some e)
+    by (Some y ∷ ys) (suc k) l e = let n = by ys k (omega arith) e in (suc n.0, n.1)
+
+-- what stands in one of two lists
+pub contains_right : {X : Type 0} (xs ys : List X) (x : X) → Contains ys x → Contains (xs ++ ys) x
+contains_right [] ys x c = c
+contains_right (z ∷ zs) ys x c = let d = contains_right zs ys x c in (suc d.0, omega (arith, d.1), d.2)
+
+pub contains_either : {X : Type 0} (xs : List (Option X)) (ys : List X) (x : X)
+    → Contains (filter_map (λ (o : Option X). o) xs ++ ys) x → ((n : ℕ) × (held_at xs n ≡ Some x)) ⊎ Contains ys x
+contains_either [] ys x c = inr c
+contains_either (None ∷ xs) ys x c = ⊎_elim
+    (λ (h : (n : ℕ) × (held_at xs n ≡ Some x)). inl (suc h.0, h.1))
+    (λ (d : Contains ys x). inr d)
+    (contains_either xs ys x c)
+contains_either {X} (Some y ∷ xs) ys x c = by c.0 c.1 c.2 (λ d. contains_either xs ys x d)
+  where
+    by : (k : ℕ) → k < length (y ∷ (filter_map (λ (o : Option X). o) xs ++ ys))
+        → get_or (y ∷ (filter_map (λ (o : Option X). o) xs ++ ys)) k x ≡ x
+        → (Contains (filter_map (λ (o : Option X). o) xs ++ ys) x → ((n : ℕ) × (held_at xs n ≡ Some x)) ⊎ Contains ys x)
+        → ((n : ℕ) × (held_at (Some y ∷ xs) n ≡ Some x)) ⊎ Contains ys x
+    by zero l e rest = inl (0, ap Some e)
+    by (suc k) l e rest = ⊎_elim
+        (λ (h : (n : ℕ) × (held_at xs n ≡ Some x)). inl (suc h.0, h.1))
+        (λ (d : Contains ys x). inr d)
+        (rest (k, omega (arith, l), e))
+
+-- the list with one more
+pub one_added : {X : Type 0} (xs ys : List (Option X)) (n : ℕ) (x : X) → held_at xs n ≡ None → held_at ys n ≡ Some x
+    → ((m : ℕ) → m ≢ n → held_at ys m ≡ held_at xs m)
+    → IsPermutation (filter_map (λ (o : Option X). o) xs ++ x ∷ []) (filter_map (λ (o : Option X). o) ys)
+one_added {X} xs ys n x vacant here others = IsPermutation-trans _ _ _
+    (IsPermutation-to_front (filter_map (λ (o : Option X). o) xs) x) (by xs ys n vacant here others)
+  where
+    flat : List (Option X) → List X
+    flat l = filter_map (λ (o : Option X). o) l
+
+    shift : (a b : List (Option X)) (k : ℕ) → ((m : ℕ) → m ≢ suc k → held_at b m ≡ held_at a m) → (m : ℕ) → m ≢ k
+        → held_at b (suc m) ≡ held_at a (suc m)
+    shift a b k h m differ = h (suc m) (λ same. differ (omega (arith, same)))
+
+    same_flat : (a b : List (Option X)) → ((m : ℕ) → held_at b m ≡ held_at a m) → flat a ≡ flat b
+    same_flat [] [] h = refl
+    same_flat [] (None ∷ b) h = same_flat [] b (λ m. h (suc m))
+    same_flat [] (Some y ∷ b) h = let clash = h 0 in absurd cc
+    same_flat (None ∷ a) [] h = same_flat a [] (λ m. h (suc m))
+    same_flat (Some y ∷ a) [] h = let clash = h 0 in absurd cc
+    same_flat (None ∷ a) (None ∷ b) h = same_flat a b (λ m. h (suc m))
+    same_flat (None ∷ a) (Some y ∷ b) h = let clash = h 0 in absurd cc
+    same_flat (Some y ∷ a) (None ∷ b) h = let clash = h 0 in absurd cc
+    same_flat (Some y ∷ a) (Some z ∷ b) h =
+        let first = h 0 in
+        let same : y ≡ z = cc in
+        let rest = same_flat a b (λ m. h (suc m)) in
+        λ i. same i ∷ rest i
+
+    by : (a b : List (Option X)) (k : ℕ) → held_at a k ≡ None → held_at b k ≡ Some x → ((m : ℕ) → m ≢ k → held_at b m ≡ held_at a m)
+        → IsPermutation (x ∷ flat a) (flat b)
+    by a [] k v e h = absurd cc
+    by [] (None ∷ b) zero v e h = absurd cc
+    by [] (Some y ∷ b) zero v e h =
+        let same : x ≡ y = cc in
+        let rest = same_flat [] b (λ m. h (suc m) (λ clash. omega (arith, clash))) in
+        subst (IsPermutation (x ∷ [])) (λ i. same i ∷ rest i) (IsPermutation-refl (x ∷ []))
+    by [] (None ∷ b) (suc k) v e h = by [] b k refl e (shift [] (None ∷ b) k h)
+    by [] (Some y ∷ b) (suc k) v e h = let clash = h 0 (λ c. omega (arith, c)) in absurd cc
+    by (None ∷ a) (None ∷ b) zero v e h = absurd cc
+    by (None ∷ a) (Some y ∷ b) zero v e h =
+        let same : x ≡ y = cc in
+        let rest = same_flat a b (λ m. h (suc m) (λ clash. omega (arith, clash))) in
+        subst (IsPermutation (x ∷ flat a)) (λ i. same i ∷ rest i) (IsPermutation-refl (x ∷ flat a))
+    by (Some z ∷ a) (y ∷ b) zero v e h = absurd cc
+    by (None ∷ a) (None ∷ b) (suc k) v e h = by a b k v e (shift (None ∷ a) (None ∷ b) k h)
+    by (None ∷ a) (Some y ∷ b) (suc k) v e h = let clash = h 0 (λ c. omega (arith, c)) in absurd cc
+    by (Some z ∷ a) (None ∷ b) (suc k) v e h = let clash = h 0 (λ c. omega (arith, c)) in absurd cc
+    by (Some z ∷ a) (Some y ∷ b) (suc k) v e h =
+        let first = h 0 (λ c. omega (arith, c)) in
+        let same : z ≡ y = cc in
+        let rest = by a b k v e (shift (Some z ∷ a) (Some y ∷ b) k h) in
+        IsPermutation-trans _ _ _ (IsPermutation-sym _ _ (IsPermutation-middle (z ∷ []) x (flat a)))
+        (subst (λ w. IsPermutation (z ∷ (x ∷ flat a)) (w ∷ flat b)) same (IsPermutation-cons z (x ∷ flat a) (flat b) rest))
 
 pub held_contains : {X Y : Type 0} (f : X → Y) (xs : List (Option X)) (n : ℕ) (x : X) → held_at xs n ≡ Some x
     → Contains (filter_map (option_map f) xs) (f x)
@@ -136,3 +226,33 @@ at_map f (y ∷ ys) (suc k) x e = at_map f ys k x e
 -- what holds of what is there
 pub holds_at : {X : Type 0} (P : X → Type 0) (o : Option X) (x : X) → o ≡ Some x → IsSomeAnd o P → P x
 holds_at P o x e h = subst (λ w. IsSomeAnd w P) e h
+
+-- what stands in a list with one more behind
+pub pushed_at : {X : Type 0} (xs : List X) (x y : X) (k : ℕ) → slice_get (xs ++ x ∷ []) k ≡ Some y
+    → (slice_get xs k ≡ Some y) ⊎ ((k ≡ length xs) × (y ≡ x))
+pushed_at [] x y zero e = let same : y ≡ x = cc in inr (refl, same)
+pushed_at [] x y (suc k) e = absurd cc
+pushed_at (z ∷ zs) x y zero e = inl e
+pushed_at {X} (z ∷ zs) x y (suc k) e = ⊎_elim
+    (λ (old : slice_get zs k ≡ Some y). inl old)
+    (λ (last : (k ≡ length zs) × (y ≡ x)). inr (ap suc last.0, last.1))
+    (pushed_at zs x y k e)
+
+-- what stands at a place that is written, and at others
+pub set_here : {X : Type 0} (xs : List X) (k : ℕ) (x y : X) → slice_get xs k ≡ Some y → slice_get (set xs k x) k ≡ Some x
+set_here [] k x y e = absurd cc
+set_here (z ∷ zs) zero x y e = refl
+set_here (z ∷ zs) (suc k) x y e = set_here zs k x y e
+
+pub set_else : {X : Type 0} (xs : List X) (k j : ℕ) (x : X) → j ≢ k → slice_get (set xs k x) j ≡ slice_get xs j
+set_else [] k j x h = refl
+set_else (z ∷ zs) zero zero x h = absurd (h refl)
+set_else (z ∷ zs) zero (suc j) x h = refl
+set_else (z ∷ zs) (suc k) zero x h = refl
+set_else (z ∷ zs) (suc k) (suc j) x h = set_else zs k j x (λ e. h (ap suc e))
+
+-- writing what is there changes nothing
+pub set_same : {X : Type 0} (xs : List X) (k : ℕ) (x : X) → slice_get xs k ≡ Some x → set xs k x ≡ xs
+set_same [] k x e = refl
+set_same {X} (y ∷ ys) zero x e = let same : x ≡ y = cc in ap (λ z. z ∷ ys) same
+set_same (y ∷ ys) (suc k) x e = ap (λ zs. y ∷ zs) (set_same ys k x e)

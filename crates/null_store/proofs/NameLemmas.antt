@@ -1,5 +1,5 @@
 -- Names in a list to which names are added, each once.
-use Rattle.std.proofs.Common.{◌≡◌, ◌==◌, ◌&&◌, ◌||◌, ◌⊎◌, inl, inr, ℕ, zero, suc, ◌<◌, Bool, true, false, true≢false, Some, List, [], ◌∷◌, ◌++◌, length, map, get_or, refl, sym, ap, ◌∙◌, subst, arith, if◌then◌else◌, ⊎_elim, Contains}
+use Rattle.std.proofs.Common.{◌≡◌, ◌==◌, ◌&&◌, ◌||◌, suc, ◌<◌, Bool, true, false, true≢false, Some, List, [], ◌∷◌, ◌++◌, length, map, get_or, refl, sym, ap, ◌∙◌, subst, arith, if◌then◌else◌, ⊎_elim, Contains}
 use Rattle.std.specs.Prelude.{slice_get}
 use Rattle.std.specs.Cmp.Lexicographic.{pointwise}
 use Rattle.std.proofs.lemmas.Bool.{eqb-true, eq-eqb, and_parts}
@@ -10,7 +10,7 @@ use Rattle.null_store.specs.contracts.names.NamePartialEq.TheImpl.{eq-value as n
 use Rattle.null_store.specs.Store.{NameOf, AreDistinct}
 use Rattle.null_store.specs.Changes.{AddsOnce}
 use Rattle.null_store.specs.Layout.{name_of}
-use Rattle.null_store.proofs.ListLemmas.{contains_from_at}
+use Rattle.null_store.proofs.ListLemmas.{contains_from_at, pushed_at}
 use Rattle.std.specs.List.{list_any}
 use Rattle.std.proofs.lemmas.List.{map-append, append-nil, get_or-map, length-map}
 use Rattle.std.proofs.lemmas.List.Folds.{list_any_at}
@@ -73,17 +73,6 @@ among_found keys key c =
     let inside : c.0 < length keys = omega (arith, c.1, length-map keys name_of) in
     list_any_at (name_eq.it key) keys c.0 key inside
     (equal_names key (get_or keys c.0 key) (sym (get_or-map name_of keys c.0 key (name_of key) inside) ∙ c.2))
-
--- what stands in a list with one more behind
-pushed_at : {X : Type 0} (xs : List X) (x y : X) (k : ℕ) → slice_get (xs ++ x ∷ []) k ≡ Some y
-    → (slice_get xs k ≡ Some y) ⊎ ((k ≡ length xs) × (y ≡ x))
-pushed_at [] x y zero e = let same : y ≡ x = cc in inr (refl, same)
-pushed_at [] x y (suc k) e = absurd cc
-pushed_at (z ∷ zs) x y zero e = inl e
-pushed_at {X} (z ∷ zs) x y (suc k) e = ⊎_elim
-    (λ (old : slice_get zs k ≡ Some y). inl old)
-    (λ (last : (k ≡ length zs) × (y ≡ x)). inr (ap suc last.0, last.1))
-    (pushed_at zs x y k e)
 
 -- names stay distinct as one that is new is added
 distinct_more : (names : List NameOf) (name : NameOf) → ¬ (Contains names name) → AreDistinct names → AreDistinct (names ++ name ∷ [])

@@ -6,6 +6,7 @@ use Rattle.rule_core.specs.declared.rules.Tgd.{Tgd}
 use Rattle.rule_core.specs.Terms.{named, unknown}
 use Rattle.rule_core.specs.Mapping.{RuleSet}
 use Rattle.rule_core.specs.Firing.{FiringOf, frontier_of, entry_rows}
+use Rattle.fact_table.specs.Rows.{SeenRow, row_at}
 use Rattle.null_store.specs.Store.{NameOf, Store, facts_in}
 
 -- the store of these parts with nothing in it
@@ -63,10 +64,11 @@ IsFresh store name span = All (λ fact. Meet fact.span span
 abbrev pub firing_at : NameOf → Ends → FiringOf ConstId
 firing_at name span = record { rule = name.rule; frontier = name.frontier; span = span }
 
--- the firing's rows are there too, and names stay; the room is less by at most what the head takes
+-- the firing's rows are there too, the others keep their numbers, and names stay; the room is less by at most what the head takes
 pub record AddsFiring (rules : RuleSet) (name : NameOf) (span : Ends) (old new : Store) : Type 0 where
   pub rows : IsPermutation (facts_in old ++ entry_rows (λ c. c) rules (firing_at name span)) (facts_in new)
   pub names : new.names ≡ old.names
+  pub kept : (number : ℕ) (row : SeenRow) → row_at old.rows number ≡ Some row → row_at new.rows number ≡ Some row
   pub room : IsSomeAnd (slice_get rules.tgds name.rule) (λ tgd.
       (old.spare.rows ≤ new.spare.rows + length tgd.head) × (old.spare.cells ≤ new.spare.cells + head_cells tgd)
       × (old.spare.pieces ≤ new.spare.pieces + exists_count tgd))

@@ -1,5 +1,5 @@
 -- How a `NullStore` lays out its rows, pieces and names. No public clause cites this module.
-use Rattle.std.specs.Prelude.{◌≡◌, ℕ, ◌+◌, ◌-◌, ◌<◌, ◌≤◌, List, ◌++◌, Option, Some, All, length, map, take, drop, slice_get, slice_index_or}
+use Rattle.std.specs.Prelude.{◌≡◌, ◌≢◌, ℕ, ◌+◌, ◌-◌, ◌<◌, ◌≤◌, List, [], ◌++◌, Option, Some, None, IsSomeAnd, IsPermutation, All, ⊤, length, map, filter_map, slice_get, slice_set, slice_index_or}
 use Rattle.std.specs.Option.{option_map}
 use Rattle.time_line.specs.Span.{Ends}
 use Rattle.term_core.specs.declared.const_id.ConstId.{ConstId}
@@ -13,31 +13,90 @@ use Rattle.rule_core.specs.declared.rules.Tgd.{Tgd}
 use Rattle.rule_core.specs.Frontier.{Occurs}
 use Rattle.rule_core.specs.Validity.{IsWithin}
 use Rattle.rule_core.specs.Firing.{frontier_of, frontier_value}
-use Rattle.fact_table.specs.Rows.{SeenRow}
-use Rattle.null_store.specs.declared.rows.PlacedRow.{PlacedRow}
+use Rattle.fact_table.specs.Rows.{SeenRow, row_at}
+use Rattle.row_arena.specs.declared.held.TheConstants.{MOST_COLUMNS}
+use Rattle.row_arena.specs.Arena.{Arena, HasCell, cell_in}
 use Rattle.null_store.specs.declared.names.Name.{Name}
 use Rattle.null_store.specs.declared.piece.NamedPiece.{NamedPiece}
+use Rattle.null_store.specs.declared.piece.CellList.{CellList}
+use Rattle.null_store.specs.declared.piece.ListedPiece.{ListedPiece}
 use Rattle.null_store.specs.declared.firing.TheConstants.{MOST_VARIABLES}
 use Rattle.null_store.specs.Changes.{head_cells, exists_count}
 use Rattle.null_store.specs.Store.{NameOf, PieceOf, Store, IsStore}
+use Rattle.null_store.specs.Lists.{rows_seen}
 
--- rows, and for how many more rows and cells there is room
-pub record RowsWithRoom : Type 0 where
-  pub rows : List SeenRow
+-- an arena, the pieces that its cells hold, the lists of their cells, and for how many more pieces there is room
+pub record LinkedArena : Type 0 where
+  pub arena : Arena
+  pub pieces : List NamedPiece
+  pub lists : List CellList
   pub room : ℕ
-  pub cell_room : ℕ
 
--- the cells of a row follow each other from its first one on
-abbrev pub row_in : List Seen → PlacedRow → SeenRow
-row_in cells row = record {
-  relation = row.head.relation;
-  cells = take row.head.arity (drop row.first cells);
-  span = row.head.span;
-}
+-- the same from its parts
+abbrev pub linked_of : Arena → List ListedPiece → ℕ → LinkedArena
+linked_of arena pieces room = record { arena = arena; pieces = map (λ p. p.named) pieces; lists = map (λ p. p.list) pieces; room = room }
 
--- the row's cells are there
-abbrev pub IsWithinCells : List Seen → PlacedRow → Type 0
-IsWithinCells cells row = row.first + row.head.arity ≤ length cells
+-- no row, no cell and no piece
+abbrev pub HoldsNothing : LinkedArena → Type 0
+HoldsNothing held = (held.arena.rows ≡ []) × (held.arena.cells ≡ []) × (held.pieces ≡ [])
+
+-- rows, cells and pieces are the same
+pub record HasSame (old new : LinkedArena) : Type 0 where
+  pub rows : new.arena.rows ≡ old.arena.rows
+  pub cells : new.arena.cells ≡ old.arena.cells
+  pub pieces : new.pieces ≡ old.pieces
+  pub lists : new.lists ≡ old.lists
+
+-- there is room for as many rows, cells and pieces
+pub record HasSameRoom (old new : LinkedArena) : Type 0 where
+  pub rows : new.arena.spare_rows ≡ old.arena.spare_rows
+  pub cells : new.arena.spare_cells ≡ old.arena.spare_cells
+  pub pieces : new.room ≡ old.room
+
+-- it is a constant
+abbrev pub IsPlain : Seen → Type 0
+IsPlain (Const c) = ⊤
+IsPlain (Piece p) = ⊥
+
+-- the row with the number has a constant in the column
+abbrev pub HasPlain : List (Option SeenRow) → ℕ → ℕ → Type 0
+HasPlain rows number column = IsSomeAnd (row_at rows number) (λ row. IsSomeAnd (slice_get row.cells column) IsPlain)
+
+-- the row is there too, under a number that had none
+pub record AddsOne (old new : List (Option SeenRow)) (number : ℕ) (row : SeenRow) : Type 0 where
+  pub vacant : row_at old number ≡ None
+  pub here : row_at new number ≡ Some row
+  pub others : (other : ℕ) → other ≢ number → row_at new other ≡ row_at old other
+
+-- a row with another value in a column
+abbrev pub with_cell : ℕ → Seen → SeenRow → SeenRow
+with_cell column value row = record { relation = row.relation; cells = slice_set row.cells column value; span = row.span }
+
+-- the row has another value in the column, and all else is as before
+pub record SetsCell (old new : List (Option SeenRow)) (number column : ℕ) (value : Seen) : Type 0 where
+  pub here : row_at new number ≡ option_map (with_cell column value) (row_at old number)
+  pub others : (other : ℕ) → other ≢ number → row_at new other ≡ row_at old other
+
+-- the rows are there too, and the others keep their numbers
+pub record AddsRows (old new : List (Option SeenRow)) (more : List SeenRow) : Type 0 where
+  pub rows : IsPermutation (filter_map (λ row. row) old ++ more) (filter_map (λ row. row) new)
+  pub kept : (number : ℕ) (row : SeenRow) → row_at old number ≡ Some row → row_at new number ≡ Some row
+
+-- the cell is there, and so is the last one, if there is one, which is another
+pub record CanLink (arena : Arena) (id : ℕ) (last : Option ℕ) : Type 0 where
+  pub cell : HasCell arena id
+  pub end : (other : ℕ) → last ≡ Some other → HasCell arena other × (other ≢ id)
+
+-- the cell holds the piece, and stands behind the last one; rows and all else are as before
+pub record Links (old new : Arena) (id piece : ℕ) (last : Option ℕ) : Type 0 where
+  pub rows : new.rows ≡ old.rows
+  pub spare_rows : new.spare_rows ≡ old.spare_rows
+  pub spare_cells : new.spare_cells ≡ old.spare_cells
+  pub here : cell_in new id ≡ option_map (λ c. record { row = c.row; column = c.column; value = Piece piece; before = last; after = None })
+      (cell_in old id)
+  pub end : (other : ℕ) → last ≡ Some other → cell_in new other
+      ≡ option_map (λ c. record { row = c.row; column = c.column; value = c.value; before = c.before; after = Some id }) (cell_in old other)
+  pub others : (other : ℕ) → other ≢ id → last ≢ Some other → cell_in new other ≡ cell_in old other
 
 -- a name as callers see it
 abbrev pub name_of : Name → NameOf
@@ -56,23 +115,27 @@ abbrev pub piece_of : List NameOf → NamedPiece → Option PieceOf
 piece_of names piece = option_map (with_name piece) (slice_get names piece.name)
 
 -- a store from its parts
-abbrev pub store_of : RowsWithRoom → List NamedPiece → ℕ → List NameOf → Store
-store_of held pieces piece_room names = record {
-  rows = map Some held.rows;
-  pieces = map (piece_of names) pieces;
+abbrev pub store_of : LinkedArena → List NameOf → Store
+store_of held names = record {
+  rows = rows_seen held.arena;
+  pieces = map (piece_of names) held.pieces;
   names = names;
-  spare = record { rows = held.room; cells = held.cell_room; pieces = piece_room };
+  spare = record { rows = held.arena.spare_rows; cells = held.arena.spare_cells; pieces = held.room };
 }
 
 -- what each store keeps: what callers see is a store, and each piece has a name with a number
-pub record IsSound (held : RowsWithRoom) (pieces : List NamedPiece) (piece_room : ℕ) (names : List NameOf) : Type 0 where
-  pub store : IsStore (store_of held pieces piece_room names)
-  pub named : All (λ piece. piece.name < length names) pieces
+pub record IsSound (held : LinkedArena) (names : List NameOf) : Type 0 where
+  pub store : IsStore (store_of held names)
+  pub named : All (λ piece. piece.name < length names) held.pieces
 
 -- the cell for an argument, where each variable has the value at its place
 abbrev pub cell_of : List Seen → Arg → Seen
 cell_of values (Var v) = slice_index_or values v (Piece 0)
 cell_of values (Fixed c) = Const c
+
+-- the argument's cell is a constant, or one of the first n pieces
+abbrev pub IsThere : List Seen → ℕ → Arg → Type 0
+IsThere values n arg = (p : ℕ) → cell_of values arg ≡ Piece p → p < n
 
 -- the row for an atom
 abbrev pub row_for : List Seen → Ends → Atom → SeenRow
@@ -105,21 +168,21 @@ pub record AddsPieces (tgd : Tgd) (name : ℕ) (span : Ends) (old more : List Na
   pub few : length more ≤ n - tgd.body_vars
 
 -- a tgd can fire with these values of its frontier in this room
-pub record IsReady (tgd : Tgd) (frontier : List ConstId) (held : RowsWithRoom) (piece_room : ℕ) : Type 0 where
+pub record IsReady (tgd : Tgd) (frontier : List ConstId) (held : LinkedArena) : Type 0 where
   pub few : length tgd.vars ≤ MOST_VARIABLES
   pub within : tgd.body_vars ≤ length tgd.vars
   pub safe : All (λ atom. All (IsWithin (length tgd.vars)) atom.args) tgd.head
+  pub narrow : All (λ atom. length atom.args ≤ MOST_COLUMNS) tgd.head
   pub size : length frontier ≡ length (frontier_of tgd)
-  pub rows : length tgd.head ≤ held.room
-  pub cells : head_cells tgd ≤ held.cell_room
-  pub pieces : exists_count tgd ≤ piece_room
+  pub rows : length tgd.head ≤ held.arena.spare_rows
+  pub cells : head_cells tgd ≤ held.arena.spare_cells
+  pub pieces : exists_count tgd ≤ held.room
 
--- behind the rows and pieces stand those that the tgd makes for these values of its frontier, over the span
-pub record IsFired (tgd : Tgd) (frontier : List ConstId) (name : ℕ) (span : Ends) (old_rows new_rows : List SeenRow)
-    (old_pieces new_pieces : List NamedPiece) : Type 0 where
+-- there are the rows and pieces too that the tgd makes for these values of its frontier, over the span
+pub record IsFired (tgd : Tgd) (frontier : List ConstId) (name : ℕ) (span : Ends) (old new : LinkedArena) : Type 0 where
   pub values : List Seen
   pub more : List NamedPiece
-  pub rows : new_rows ≡ old_rows ++ map (row_for values span) tgd.head
-  pub pieces : new_pieces ≡ old_pieces ++ more
+  pub rows : AddsRows (rows_seen old.arena) (rows_seen new.arena) (map (row_for values span) tgd.head)
+  pub pieces : new.pieces ≡ old.pieces ++ more
   pub has_values : HasFrontierValues tgd frontier values
-  pub adds : AddsPieces tgd name span old_pieces more values (length tgd.vars)
+  pub adds : AddsPieces tgd name span old.pieces more values (length tgd.vars)

@@ -1,3 +1,4 @@
 pub mod Store
 pub mod Changes
+pub mod Lists
 pub mod Layout

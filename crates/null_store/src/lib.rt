@@ -1,5 +1,5 @@
 //! The rows of a target while it is made. A cell is a constant or a piece, which is an unknown over
-//! the span of its rows. Rows, cells and pieces lie in plain lists so far.
+//! the span of its rows. The cells that hold a piece are linked.
 #![tactic(auto)]
 
 mod firing;

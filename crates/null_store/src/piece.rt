@@ -13,3 +13,23 @@ pub struct NamedPiece {
     /// The span.
     pub span: Span,
 }
+
+/// The list of the cells that hold a piece.
+#[derive(Clone, Copy, Debug)]
+pub struct CellList {
+    /// The number of the first cell.
+    pub first: Option<usize>,
+    /// The number of the last cell.
+    pub last: Option<usize>,
+    /// How many cells there are.
+    pub count: usize,
+}
+
+/// A piece, and the list of its cells.
+#[derive(Clone, Copy, Debug)]
+pub struct ListedPiece {
+    /// The piece.
+    pub named: NamedPiece,
+    /// Its cells.
+    pub list: CellList,
+}

@@ -1,132 +1,224 @@
-//! Rows whose cells lie in one list, each row's behind those of the row before.
+//! Rows over an arena, in which the cells that hold a piece are linked.
 
-ghost use Rattle.std.specs.Prelude.{◌≡◌, ℕ, ◌+◌, ◌<◌, ◌≤◌, [], ◌∷◌, ◌++◌, Some, All, IsSomeAnd, OnOk, length, map, slice_get, vec_capacity, vec_len};
-ghost use Rattle.std.specs.Option.{option_and_then, option_map};
-ghost use Rattle.fact_table.specs.Rows.{head_of};
-ghost use Rattle.rule_core.specs.Validity.{IsWithin};
-ghost use Rattle.null_store.specs.Layout.{cell_of, row_for};
+ghost use Rattle.std.specs.Prelude.{◌≡◌, ℕ, List, ◌+◌, ◌<◌, ◌≤◌, [], ◌∷◌, ◌++◌, Some, All, OnOk, length, slice_get};
+ghost use Rattle.term_core.specs.declared.term.Seen.TheVariants.{Piece, Const};
+ghost use Rattle.fact_table.specs.Rows.{HasCell, head_at, cell_at};
+ghost use Rattle.row_arena.specs.declared.held.TheConstants.{MOST_COLUMNS};
+ghost use Rattle.null_store.specs.Lists.{rows_seen, IsOccurrenceList, HasOccurrences};
+ghost use Rattle.row_arena.specs.Arena.{cell_in};
+ghost use Rattle.null_store.specs.Layout.{HoldsNothing, HasSame, IsPlain, HasPlain, AddsOne, SetsCell, HasSameRoom, CanLink, Links};
 
+use crate::piece::{CellList, ListedPiece, NamedPiece};
 use fact_table::RowHead;
-use rule_core::{Arg, Atom};
+use row_arena::RowArena;
 use std::alloc::Global;
 use std::marker::Model;
-use term_core::{Memory, Seen};
+use std::sync::ledger::Ledger;
+use term_core::{ConstId, Memory, Seen, Steps};
 use time_line::Span;
 
-/// Rows in the order in which they were added.
+/// Rows and pieces, and for each piece the list of the cells that hold it.
 #[derive(Drop)]
-pub struct RowList {
-    rows: Vec<PlacedRow>,
-    cells: Vec<Seen>,
+pub struct LinkedRows {
+    arena: RowArena,
+    pieces: Vec<ListedPiece>,
 }
 
-/// What a row is without its cells, and the place of the first of them.
-#[derive(Clone, Copy, Debug)]
-struct PlacedRow {
-    head: RowHead,
-    first: usize,
+impl Model for LinkedRows {
+    ghost use Rattle.std.specs.Prelude.{◌-◌, map, vec_capacity, vec_len};
+    ghost use Rattle.null_store.specs.declared.piece.ListedPiece.{ListedPiece};
+    ghost use Rattle.row_arena.specs.Arena.{cell_in};
+    ghost use Rattle.null_store.specs.Lists.{AreListed};
+    ghost use Rattle.null_store.specs.Layout.{LinkedArena, linked_of};
+
+    ghost Value = { LinkedArena };
+
+    ghost view = { λ s. linked_of s.arena s.pieces.items (vec_capacity s.pieces - vec_len s.pieces) };
+
+    ghost invariant = { λ s. AreListed (cell_in s.arena) (map (λ (p : ListedPiece). p.list) s.pieces.items) };
 }
 
-impl Model for RowList {
-    ghost use Rattle.std.specs.Prelude.{◌-◌, All, map, vec_capacity, vec_len};
-    ghost use Rattle.null_store.specs.Layout.{RowsWithRoom, IsWithinCells, row_in};
-
-    ghost Value = { RowsWithRoom };
-
-    ghost view = { λ s. record {
-      rows = map (row_in s.cells.items) s.rows.items;
-      room = vec_capacity s.rows - vec_len s.rows;
-      cell_room = vec_capacity s.cells - vec_len s.cells;
-    } };
-
-    ghost invariant = { λ s. All (IsWithinCells s.cells.items) s.rows.items };
-}
-
-impl RowList {
-    /// No row.
-    pub fn new(alloc: Global) -> RowList
-        ensures { result.rows ≡ [] }
+impl LinkedRows {
+    /// No row and no piece.
+    pub fn new(alloc: Global) -> LinkedRows
+        ensures { HoldsNothing result }
     {
-        RowList {
-            rows: Vec::new(alloc),
-            cells: Vec::new(alloc),
+        LinkedRows {
+            arena: RowArena::new(alloc),
+            pieces: Vec::new(alloc),
         }
     }
 
-    /// Takes memory for so many more rows and cells.
-    pub fn reserve(&mut self, rows: usize, cells: usize) -> Result<(), Memory>
-        ensures same { self.new.rows ≡ self.old.rows }
-        ensures rows { OnOk result (rows ≤ self.new.room) }
-        ensures cells { OnOk result (cells ≤ self.new.cell_room) }
+    /// Takes memory for so many more rows, cells and pieces.
+    pub fn reserve(&mut self, rows: usize, cells: usize, pieces: usize) -> Result<(), Memory>
+        ensures same { HasSame self.old self.new }
+        ensures rows { OnOk result (rows ≤ self.new.arena.spare_rows) }
+        ensures cells { OnOk result (cells ≤ self.new.arena.spare_cells) }
+        ensures pieces { OnOk result (pieces ≤ self.new.room) }
     {
-        self.rows.reserve(rows)?;
-        self.cells.reserve(cells)?;
+        self.arena.reserve(rows, cells)?;
+        self.pieces.reserve(pieces)?;
         Ok(())
     }
 
-    /// How many rows there are.
+    /// The rows and their cells.
+    pub fn arena(&self) -> &RowArena
+        ensures arena { result.now ≡ self.now.arena }
+        ensures lists { (piece : ℕ) → piece < length self.now.pieces
+            → (ids : List ℕ) × IsOccurrenceList (cell_in result.now) piece ids }
+    {
+        &self.arena
+    }
+
+    /// How many cells hold a piece.
+    pub fn occurrences(&self, piece: usize) -> usize
+        requires { piece < length self.now.pieces }
+        ensures { HasOccurrences (rows_seen self.now.arena) piece result }
+    {
+        self.arena.is_kept();
+        self.pieces[piece].list.count
+    }
+
+    /// How many pieces there are.
     pub fn len(&self) -> usize
-        ensures { result ≡ length self.now.rows }
+        ensures { result ≡ length self.now.pieces }
     {
-        self.rows.len()
+        self.pieces.len()
     }
 
-    /// The head of a row, if there is one at the place.
-    pub fn head(&self, row: usize) -> Option<RowHead>
-        ensures { result ≡ option_map head_of (slice_get self.now.rows row) }
+    /// A piece.
+    pub fn piece(&self, piece: usize) -> NamedPiece
+        requires { piece < length self.now.pieces }
+        ensures { slice_get self.now.pieces piece ≡ Some result }
     {
-        let row = self.rows.get(row)?;
-        Some(row.head)
+        self.pieces[piece].named
     }
 
-    /// A cell of a row.
-    pub fn cell(&self, row: usize, column: usize) -> Seen
-        requires { IsSomeAnd (slice_get self.now.rows row) (λ r. column < length r.cells) }
-        ensures { option_and_then (λ r. slice_get r.cells column) (slice_get self.now.rows row)
-            ≡ Some result }
-    {
-        self.cells[self.rows[row].first + column]
-    }
-
-    /// Adds the row for an atom, in the spare room.
-    pub fn push_image(&mut self, atom: &Atom, values: &[Seen], span: Span)
-        requires room { 0 < self.old.room }
-        requires cell_room { length atom.now.args ≤ self.old.cell_room }
-        requires within { All (IsWithin (length values.now)) atom.now.args }
-        ensures rows { self.new.rows ≡ self.old.rows ++ row_for values.now span atom.now ∷ [] }
+    /// Adds a piece that no cell holds, in the spare room.
+    pub fn add_piece(&mut self, named: NamedPiece)
+        requires { 0 < self.old.room }
+        ensures arena { self.new.arena ≡ self.old.arena }
+        ensures pieces { self.new.pieces ≡ self.old.pieces ++ named ∷ [] }
         ensures room { self.new.room + 1 ≡ self.old.room }
-        ensures cell_room { self.new.cell_room + length atom.now.args ≡ self.old.cell_room }
     {
-        let head = RowHead {
-            relation: atom.relation,
-            arity: atom.args.len(),
-            span,
+        let list = CellList {
+            first: None,
+            last: None,
+            count: 0,
         };
-        let first = self.cells.len();
-        push_cells(&mut self.cells, atom.args.as_slice(), values);
-        self.rows.push_reserved(PlacedRow { head, first });
+        self.pieces.push_reserved(ListedPiece { named, list });
+    }
+
+    /// Adds a row of these constants, in the spare room, and gives its number.
+    pub fn add_row(&mut self, relation: u32, span: Span, values: &[Seen]) -> usize
+        requires row { 0 < self.old.arena.spare_rows }
+        requires cells { length values.now ≤ self.old.arena.spare_cells }
+        requires few { length values.now ≤ MOST_COLUMNS }
+        requires plain { All IsPlain values.now }
+        ensures adds { AddsOne (rows_seen self.old.arena) (rows_seen self.new.arena) result
+            (record { relation = relation; cells = values.now; span = span }) }
+        ensures rows { self.new.arena.spare_rows + 1 ≡ self.old.arena.spare_rows }
+        ensures cells { self.new.arena.spare_cells + length values.now
+            ≡ self.old.arena.spare_cells }
+        ensures pieces { self.new.pieces ≡ self.old.pieces }
+        ensures room { self.new.room ≡ self.old.room }
+    {
+        self.arena.is_kept();
+        let row = self.arena.add_row(relation, span, values);
+        self.arena.is_kept();
+        row
+    }
+
+    /// Writes a constant to a cell that holds one. It takes a step.
+    pub fn put<L: Ledger>(
+        &mut self,
+        row: usize,
+        column: usize,
+        constant: ConstId,
+        steps: &mut Steps<L>,
+    )
+        requires { HasPlain (rows_seen self.old.arena) row column }
+        ensures sets { SetsCell (rows_seen self.old.arena) (rows_seen self.new.arena) row column
+            (Const constant) }
+        ensures room { HasSameRoom self.old self.new }
+        ensures pieces { self.new.pieces ≡ self.old.pieces }
+        ensures step { steps.new ≡ steps.old + 1 }
+    {
+        self.arena.is_kept();
+        let id = self.arena.cell_at(row, column);
+        self.arena
+            .put_cell(id, Seen::Const(constant), None, None, steps);
+    }
+
+    /// Writes a piece to a cell that holds a constant, and links the cell. It takes at most two
+    /// steps.
+    pub fn hold<L: Ledger>(&mut self, row: usize, column: usize, piece: usize, steps: &mut Steps<L>)
+        requires cell { HasPlain (rows_seen self.old.arena) row column }
+        requires piece { piece < length self.old.pieces }
+        ensures sets { SetsCell (rows_seen self.old.arena) (rows_seen self.new.arena) row column
+            (Piece piece) }
+        ensures room { HasSameRoom self.old self.new }
+        ensures pieces { self.new.pieces ≡ self.old.pieces }
+        ensures steps { steps.new ≤ steps.old + 2 }
+    {
+        self.arena.is_kept();
+        let _bound = self.arena.cell_bound();
+        let id = self.arena.cell_at(row, column);
+        let listed = self.pieces[piece];
+        let (named, list) = (listed.named, listed.list);
+        let list = CellList {
+            first: list.first.or(Some(id)),
+            last: Some(id),
+            count: list.count + 1,
+        };
+        link(&mut self.arena, id, piece, listed.list.last, steps);
+        self.pieces[piece] = ListedPiece { named, list };
+    }
+
+    /// Above the number of each row.
+    pub fn bound(&self) -> usize
+        ensures { result ≡ length (rows_seen self.now.arena) }
+    {
+        self.arena.bound()
+    }
+
+    /// The head of a row, if there is one with the number.
+    pub fn head(&self, row: usize) -> Option<RowHead>
+        ensures { result ≡ head_at (rows_seen self.now.arena) row }
+    {
+        let head = self.arena.head(row)?;
+        Some(RowHead {
+            relation: head.relation,
+            arity: head.arity,
+            span: head.span,
+        })
+    }
+
+    /// A cell of a row. It takes a step.
+    pub fn cell<L: Ledger>(&self, row: usize, column: usize, steps: &mut Steps<L>) -> Seen
+        requires { HasCell (rows_seen self.now.arena) row column }
+        ensures value { cell_at (rows_seen self.now.arena) row column ≡ Some result }
+        ensures step { steps.new ≡ steps.old + 1 }
+    {
+        let id = self.arena.cell_at(row, column);
+        self.arena.cell(id, steps).value
     }
 }
 
-// Adds the cells for arguments, in the spare room.
-fn push_cells(cells: &mut Vec<Seen>, args: &[Arg], values: &[Seen])
-    requires room { vec_len cells.old + length args.now ≤ vec_capacity cells.old }
-    requires within { All (IsWithin (length values.now)) args.now }
-    ensures cells { cells.new.items ≡ cells.old.items ++ map (cell_of values.now) args.now }
-    ensures room { vec_capacity cells.new ≡ vec_capacity cells.old }
+// Writes a piece to a cell, which stands behind the last cell of the piece.
+fn link<L: Ledger>(
+    arena: &mut RowArena,
+    id: usize,
+    piece: usize,
+    last: Option<usize>,
+    steps: &mut Steps<L>,
+)
+    requires { CanLink arena.old id last }
+    ensures links { Links arena.old arena.new id piece last }
+    ensures steps { steps.new ≤ steps.old + 2 }
 {
-    for arg in args {
-        cells.push_reserved(cell_for(*arg, values));
+    if let Some(last) = last {
+        arena.link_after(last, Some(id), steps);
     }
-}
-
-// The cell for an argument.
-fn cell_for(arg: Arg, values: &[Seen]) -> Seen
-    requires { IsWithin (length values.now) arg }
-    ensures { result ≡ cell_of values.now arg }
-{
-    match arg {
-        Arg::Var(variable) => values[variable as usize],
-        Arg::Const(constant) => Seen::Const(constant),
-    }
+    arena.put_cell(id, Seen::Piece(piece), last, None, steps);
 }

@@ -1,18 +1,20 @@
 //! A store of rows over constants and pieces of unknowns.
 
-ghost use Rattle.std.specs.Prelude.{◌≡◌, ◌↔◌, ◌≤◌, Some, IsTrue, IsSomeAnd, IfOk, OnOk, OnErr, slice_get};
+ghost use Rattle.std.specs.Prelude.{◌≡◌, ◌↔◌, ℕ, List, ◌+◌, ◌*◌, ◌≤◌, Some, IsTrue, IsSomeAnd, IfOk, OnOk, OnErr, slice_get};
 ghost use Rattle.std.specs.declared.cmp.Ordering.TheVariants.{Less};
 ghost use Rattle.term_core.specs.Order.{unknown_cmp};
 ghost use Rattle.fact_table.specs.Rows.{HasCell, cell_at};
 ghost use Rattle.null_store.specs.Store.{IsStore, IsLive, piece_at};
-ghost use Rattle.null_store.specs.Changes.{IsEmpty, HoldsSame, HasRoom, IsNamedAt, AddsOnce, KeepsAllButNames, CanFire, IsFresh, AddsFiring};
+ghost use Rattle.null_store.specs.Changes.{IsEmpty, HoldsSame, HasRoom, IsNamedAt, AddsOnce, KeepsAllButNames, CanFire, IsFresh, AddsFiring, head_cells};
+ghost use Rattle.row_arena.specs.Arena.{cell_in};
+ghost use Rattle.null_store.specs.Lists.{rows_seen, IsOccurrenceList, HasOccurrences};
 ghost use Rattle.null_store.specs.Layout.{name_of, unknown_in};
 
 use crate::firing::fire;
 use crate::names::{Name, Names};
-use crate::piece::NamedPiece;
-use crate::rows::RowList;
+use crate::rows::LinkedRows;
 use fact_table::{FactSource, RowHead};
+use row_arena::RowArena;
 use rule_core::Rules;
 use std::alloc::Global;
 use std::cmp::Ordering;
@@ -25,24 +27,20 @@ use time_line::Span;
 /// unknown have no instant in common.
 #[derive(Drop)]
 pub struct NullStore {
-    rows: RowList,
-    pieces: Vec<NamedPiece>,
+    rows: LinkedRows,
     names: Names,
     alloc: Global,
 }
 
 impl Model for NullStore {
-    ghost use Rattle.std.specs.Prelude.{◌-◌, vec_capacity, vec_len};
     ghost use Rattle.null_store.specs.Store.{Store};
     ghost use Rattle.null_store.specs.Layout.{store_of, IsSound};
 
     ghost Value = { Store };
 
-    ghost view = { λ s. store_of s.rows s.pieces.items
-        (vec_capacity s.pieces - vec_len s.pieces) s.names };
+    ghost view = { λ s. store_of s.rows s.names };
 
-    ghost invariant = { λ s. IsSound s.rows s.pieces.items
-        (vec_capacity s.pieces - vec_len s.pieces) s.names };
+    ghost invariant = { λ s. IsSound s.rows s.names };
 }
 
 impl NullStore {
@@ -51,8 +49,7 @@ impl NullStore {
         ensures { IsEmpty result }
     {
         NullStore {
-            rows: RowList::new(alloc),
-            pieces: Vec::new(alloc),
+            rows: LinkedRows::new(alloc),
             names: Names::new(alloc),
             alloc,
         }
@@ -70,9 +67,7 @@ impl NullStore {
         ensures same { HoldsSame self.old self.new }
         ensures room { OnOk result (HasRoom self.new rows cells pieces) }
     {
-        self.rows.reserve(rows, cells)?;
-        self.pieces.reserve(pieces)?;
-        Ok(())
+        self.rows.reserve(rows, cells, pieces)
     }
 
     /// The number of the name of a rule's unknowns at these values of its frontier, which is added
@@ -88,26 +83,45 @@ impl NullStore {
     }
 
     /// Adds the rows of a firing: those of the head of the name's tgd over the span, with a new
-    /// piece for each `exists` variable that the head has. It takes no step.
+    /// piece for each `exists` variable that the head has. It takes at most two steps a cell.
     pub fn add_firing<L: Ledger>(
         &mut self,
         rules: &Rules,
         name: usize,
         span: Span,
-        _steps: &mut Steps<L>,
+        steps: &mut Steps<L>,
     )
         requires { IsSomeAnd (slice_get self.old.names name)
             (λ n. CanFire rules.now self.old n × IsFresh self.old n span) }
         ensures adds { IsSomeAnd (slice_get self.old.names name)
             (λ n. AddsFiring rules.now n span self.old self.new) }
-        ensures steps { _steps.new ≡ _steps.old }
+        ensures steps { IsSomeAnd (slice_get self.old.names name)
+            (λ n. IsSomeAnd (slice_get rules.now.tgds n.rule)
+            (λ tgd. steps.new ≤ steps.old + 2 * head_cells tgd)) }
     {
         rules.is_kept();
         let named = self.names.get(name);
         let tgd = &rules.tgds().as_slice()[named.rule as usize];
         let frontier = named.frontier.as_slice();
-        let (rows, pieces) = (&mut self.rows, &mut self.pieces);
-        fire(tgd, frontier, name, span, rows, pieces);
+        fire(tgd, frontier, name, span, &mut self.rows, steps);
+    }
+
+    /// The rows and cells, under the same numbers. A cell that holds a piece is linked to the cells
+    /// before and after it in the list of the cells that hold the piece.
+    pub fn arena(&self) -> &RowArena
+        ensures rows { rows_seen result.now ≡ self.now.rows }
+        ensures lists { (piece : ℕ) → IsLive self.now piece
+            → (ids : List ℕ) × IsOccurrenceList (cell_in result.now) piece ids }
+    {
+        self.rows.arena()
+    }
+
+    /// How many cells hold a live piece.
+    pub fn occurrences(&self, piece: usize) -> usize
+        requires { IsLive self.now piece }
+        ensures { HasOccurrences self.now.rows piece result }
+    {
+        self.rows.occurrences(piece)
     }
 
     /// The unknown of a live piece.
@@ -116,7 +130,7 @@ impl NullStore {
         ensures { IfOk result (λ unknown.
             IsSomeAnd (piece_at self.now piece) (λ p. p.unknown ≡ unknown)) }
     {
-        let piece = &self.pieces[piece];
+        let piece = self.rows.piece(piece);
         let name = self.names.get(piece.name);
         Ok(Unknown {
             rule: name.rule,
@@ -132,7 +146,7 @@ impl NullStore {
         ensures { IsSomeAnd (piece_at self.now a) (λ p. IsSomeAnd (piece_at self.now b)
             (λ q. IsTrue result ↔ (unknown_cmp p.unknown q.unknown ≡ Less))) }
     {
-        let (left, right) = (self.pieces[a], self.pieces[b]);
+        let (left, right) = (self.rows.piece(a), self.rows.piece(b));
         let name = self.names.get(left.name);
         let other = self.names.get(right.name);
         order(name, left.var, other, right.var).is_lt()
@@ -143,7 +157,7 @@ impl NullStore {
         requires { IsLive self.now piece }
         ensures { IsSomeAnd (piece_at self.now piece) (λ p. p.span ≡ result) }
     {
-        self.pieces[piece].span
+        self.rows.piece(piece).span
     }
 }
 
@@ -162,18 +176,18 @@ impl FactSource for NullStore {
     ghost rows = { λ s. s.rows };
 
     fn bound(&self) -> usize {
-        self.rows.len()
+        self.rows.bound()
     }
 
     fn head(&self, row: usize) -> Option<RowHead> {
         self.rows.head(row)
     }
 
-    fn cell<L: Ledger>(&self, row: usize, column: usize, _steps: &mut Steps<L>) -> Seen
+    fn cell<L: Ledger>(&self, row: usize, column: usize, steps: &mut Steps<L>) -> Seen
         requires { HasCell self.now.rows row column }
         ensures value { cell_at self.now.rows row column ≡ Some result }
-        ensures steps { _steps.old ≤ _steps.new }
+        ensures steps { steps.new ≡ steps.old + 1 }
     {
-        self.rows.cell(row, column)
+        self.rows.cell(row, column, steps)
     }
 }

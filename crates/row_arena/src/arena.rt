@@ -73,6 +73,13 @@ impl RowArena {
         self.bound
     }
 
+    /// Above the number of each cell.
+    pub fn cell_bound(&self) -> usize
+        ensures { length self.now.cells ≤ result }
+    {
+        self.cells.capacity()
+    }
+
     /// Adds a row with these values, in the spare room, and gives its number.
     pub fn add_row(&mut self, relation: u32, span: Span, values: &[Seen]) -> usize
         requires row { 0 < self.old.spare_rows }

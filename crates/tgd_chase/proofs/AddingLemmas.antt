@@ -1,13 +1,16 @@
 -- What a store has before the rows of a firing are added.
-use Rattle.std.proofs.Common.{◌≡◌, ℕ, Some, ◌≤◌, List, [], length, get_or, refl, sym, ◌∙◌, subst, All, Contains}
+use Rattle.failure_trace.specs.Firings.{AreFirings}
+use Rattle.std.proofs.lemmas.List.{length-map}
+use Rattle.std.proofs.Common.{◌≡◌, ℕ, Some, ◌≤◌, List, [], length, get_or, refl, sym, ◌∙◌, subst, All, Contains, ◌<◌, Option, None, ap}
 use Rattle.std.specs.Prelude.{IsSomeAnd, slice_get}
 use Rattle.std.proofs.lemmas.Option.{slice_get_read, slice_get_within}
-use Rattle.time_line.specs.Span.{Meet}
+use Rattle.time_line.specs.Span.{Meet, HasInstant}
 use Rattle.term_core.specs.declared.const_id.ConstId.{ConstId}
 use Rattle.rule_core.specs.declared.rules.Tgd.{Tgd}
 use Rattle.rule_core.specs.Mapping.{RuleSet}
+use Rattle.rule_core.specs.Snapshot.{snapshot_at}
 use Rattle.rule_core.specs.Terms.{named, unknown, FactOf, StampedOf}
-use Rattle.rule_core.specs.Firing.{frontier_of}
+use Rattle.rule_core.specs.Firing.{frontier_of, Fires}
 use Rattle.body_match.proofs.SearchLemmas.{and_some, some_and, same_some}
 use Rattle.null_store.specs.Store.{Store, facts_in}
 use Rattle.null_store.specs.Changes.{HoldsSame, HasRoom, KeepsAllButNames, IsNamedAt, CanFire, IsFresh, head_cells, exists_count}
@@ -60,3 +63,14 @@ can_add rules f tgd old kept new number fits fresh is same room keeps at =
     is_fresh : IsFresh new (name_of f) f.span
     is_fresh = subst (λ (facts : List Row). All (IsNew f) facts)
         (sym (same_facts kept new keeps.rows keeps.pieces ∙ same_facts old kept same.rows same.pieces)) fresh
+
+-- a firing has a value for each variable of its tgd's frontier
+pub fits : (rules : RuleSet) (source : List (StampedOf (FactOf ConstId))) (listed : List Firing) (k : ℕ) (f : Firing)
+    → AreFirings rules source listed → HasInstant f.span → k < length listed → f ≡ get_or listed k f → FitsRules rules f
+fits rules source listed k f are instant l is =
+    by (slice_get rules.tgds f.rule) ((are.exact f.rule f.frontier instant.0).0 (k, f, l, sym is, (refl, refl, instant.1)))
+  where
+    by : (o : Option Tgd) → IsSomeAnd o (λ tgd. Fires (λ c. c) tgd (snapshot_at source instant.0) f.frontier)
+        → IsSomeAnd o (λ tgd. length f.frontier ≡ length (frontier_of tgd))
+    by None h = h
+    by (Some tgd) h = sym (ap length h.2) ∙ length-map (frontier_of tgd) h.0

@@ -3,7 +3,7 @@ use Rattle.std.proofs.Common.{◌+◌, sym, ap, rules}
 use Rattle.std.specs.Ordering.{is_lt}
 use Rattle.std.proofs.lemmas.List.Sorted.{IsPartitionPoint-from_clause}
 use Rattle.term_core.specs.Order.{unknown_cmp}
-use Rattle.exchange_cli.proofs.RankLemmas.{lesser_stand_first, count_is_point}
+use Rattle.certain_answers.proofs.RankLemmas.{lesser_stand_first, count_is_point}
 use Rattle.exchange_cli.proofs.rendering.rank.Goals as goal
 
 pub returns : goal.returns

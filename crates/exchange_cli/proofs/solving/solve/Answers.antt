@@ -1,11 +1,21 @@
 -- What the exchange gives is, as it is stored, the target.
-use Rattle.std.proofs.Common.{◌≡◌, List, map, ap, refl, subst}
+use Rattle.std.proofs.Common.{◌≡◌, List, map, ap, refl, subst, ◌∙◌}
 use Rattle.rule_core.specs.declared.rules.Relation.{Relation}
 use Rattle.rule_core.specs.Mapping.{RuleSet}
+use Rattle.exchange_cli.specs.Answers.{answer_relation}
 use Rattle.exchange_cli.specs.Rendering.{stored_table}
 use Rattle.exchange_cli.specs.Steps.{read_of}
 use Rattle.exchange_cli.specs.Target.{AreTableFiles}
+use Rattle.exchange_cli.proofs.CertainLemmas.{answers_wide, answers_within, same_relations}
 use Rattle.exchange_cli.proofs.solving.solve.Goals as goal
+
+pub render-requires-clause-answers : goal.render-requires-clause-answers
+render-requires-clause-answers c =
+    answers_wide c.in_ok-loaded.loaded c.in_ok-solved.solved.answers c.in_ok-solved.ensures.answers
+
+pub render-requires-clause-answers_within : goal.render-requires-clause-answers_within
+render-requires-clause-answers_within c =
+    answers_within c.in_ok-loaded.loaded c.in_ok-solved.solved.answers c.in_ok-solved.ensures.answers
 
 pub returns : goal.returns
 returns c =
@@ -17,6 +27,8 @@ returns c =
     let rendered = c.in_ok-render.ensures in
     let counts = c.in_ok-solved.ensures.counts in
     let same : loaded.rules.targets ≡ inputs.mapping.rules.targets = ap (λ (r : RuleSet). r.targets) from.rules.2 in
+    let answered : map answer_relation loaded.rules.queries ≡ map answer_relation inputs.mapping.rules.queries =
+    ap (λ (r : RuleSet). map answer_relation r.queries) from.rules.2 ∙ same_relations from.rules.0 inputs.mapping.rules.queries in
     record {
       groups = rendered.groups;
       each = record {
@@ -26,6 +38,13 @@ returns c =
           each =
               subst (λ (relations : List Relation). AreTableFiles target relations rendered.groups.tables
               (map (stored_table loaded.pool solved.nulls) solved.tables)) same rendered.named;
+        };
+        answers = record {
+          tables = map (stored_table loaded.pool solved.nulls) solved.answers;
+          certain = c.stored_answers_are_certain.ensures inputs loaded solved from c.in_ok-solved.ensures;
+          each =
+              subst (λ (relations : List Relation). AreTableFiles target relations rendered.groups.answers
+              (map (stored_table loaded.pool solved.nulls) solved.answers)) answered rendered.answers;
         };
         verdict = rendered.verdict;
       };

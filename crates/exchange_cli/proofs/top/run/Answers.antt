@@ -2,7 +2,7 @@
 use Rattle.std.proofs.Common.{map, string_bytes}
 use Rattle.exchange_cli.specs.Run.{device, seen, Ends}
 use Rattle.exchange_cli.specs.Headline.{CompletesClause}
-use Rattle.exchange_cli.proofs.HeadlineLemmas.{words_clause, answer_clause, refusal_clause, completes_clause, output_clause, store_clause, status_clause, target_clause, pieces_clause}
+use Rattle.exchange_cli.proofs.HeadlineLemmas.{words_clause, answer_clause, refusal_clause, completes_clause, output_clause, store_clause, status_clause, target_clause, answers_clause, pieces_clause}
 use Rattle.exchange_cli.proofs.top.run.Goals as goal
 
 pub returns : goal.returns
@@ -34,5 +34,6 @@ returns g c =
       stores = store_clause words before after err now status ends;
       status = status_clause words before after status completes;
       target = target_clause words before after status completes;
+      answers = answers_clause words before after status completes;
       pieces = pieces_clause words before after status completes;
     }

@@ -1,4 +1,4 @@
-use Rattle.std.proofs.Common.{◌≡◌, ◌∙◌, ◌++◌, ◌∷◌, [], ℕ, List, map, ap, sym, subst, arith}
+use Rattle.std.proofs.Common.{◌≡◌, ◌∙◌, ◌++◌, ◌∷◌, [], ℕ, List, map, ap, subst, arith}
 use Rattle.std.specs.List.{range_with_len}
 use Rattle.term_core.specs.declared.term.Unknown.{Unknown as HeldUnknown}
 use Rattle.failure_trace.specs.declared.trace.Value.{Value}

@@ -1,5 +1,5 @@
 use Rattle.std.proofs.lemmas.Int.{to_z-of_z}
-use Rattle.std.proofs.Common.{◌≡◌, ◌∙◌, take, ap, sym, subst, to_z, of_z, w64}
+use Rattle.std.proofs.Common.{◌≡◌, ◌∙◌, ap, subst, to_z, of_z, w64}
 use Rattle.std.proofs.lemmas.List.{take_all}
 use Rattle.failure_trace.specs.Projected.{unknowns_at}
 use Rattle.failure_trace.proofs.NumberLemmas.{unknowns_more, unknowns_same}

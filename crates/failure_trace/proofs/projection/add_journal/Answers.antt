@@ -1,9 +1,8 @@
-use Rattle.std.proofs.Common.{◌+◌, ◌≡◌, ◌∷◌, [], ◌++◌, List, All, take, ap, sym, subst, ◌∙◌, to_z, of_z, w64}
+use Rattle.std.proofs.Common.{◌∷◌, [], ◌++◌, All, take, ap, sym, subst, ◌∙◌, to_z, of_z, w64}
 use Rattle.std.specs.List.{AllZip}
 use Rattle.std.proofs.lemmas.List.{append_assoc}
 use Rattle.std.proofs.lemmas.List.Elements.{All-push}
 use Rattle.failure_trace.specs.declared.journal.JournalStep.{JournalStep}
-use Rattle.failure_trace.specs.declared.trace.TraceStep.{TraceStep}
 use Rattle.failure_trace.specs.declared.trace.StepKind.TheVariants.{Egd as EgdStep}
 use Rattle.failure_trace.specs.Printed.{IsWritableStep}
 use Rattle.failure_trace.specs.Projected.{steps_at, TellsStep}

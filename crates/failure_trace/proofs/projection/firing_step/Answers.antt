@@ -1,4 +1,4 @@
-use Rattle.std.proofs.Common.{◌∙◌, subst, to_z, of_z, w64}
+use Rattle.std.proofs.Common.{◌∙◌, subst, w64}
 use Rattle.std.proofs.lemmas.Int.{to_z-of_z}
 use Rattle.time_line.specs.Span.{Has}
 use Rattle.failure_trace.proofs.ToldLemmas.{tells_firing, firing_writable}

@@ -1,13 +1,11 @@
-use Rattle.std.proofs.Common.{◌≡◌, ◌∷◌, [], ◌++◌, ◌∙◌, Some, List, All, IsPermutation, sym, subst, to_z, of_z, w64}
+use Rattle.std.proofs.Common.{Some, All, IsPermutation, sym, subst, to_z, of_z, w64}
 use Rattle.std.specs.List.{AllZip}
 use Rattle.std.proofs.lemmas.Int.{to_z-of_z}
 use Rattle.std.proofs.lemmas.List.Elements.{All-push}
 use Rattle.time_line.specs.Span.{IsWithinInstants}
-use Rattle.term_core.specs.declared.term.Unknown.{Unknown as HeldUnknown}
-use Rattle.failure_trace.specs.declared.trace.TraceStep.{TraceStep}
 use Rattle.failure_trace.specs.declared.trace.StepKind.TheVariants.{Egd as EgdStep, Clash as ClashStep}
 use Rattle.failure_trace.specs.Printed.{IsWritableStep}
-use Rattle.failure_trace.specs.Projected.{firings_at, steps_at, unknowns_at, TellsFiring, TellsStep, IsProjected}
+use Rattle.failure_trace.specs.Projected.{firings_at, steps_at, unknowns_at, TellsFiring, TellsStep}
 use Rattle.failure_trace.proofs.ProjectLemmas.{whole}
 use Rattle.failure_trace.proofs.projection.project.Goals as goal
 

@@ -6,9 +6,18 @@ use Rattle.failure_trace.specs.declared.firing.Firing.{Firing}
 use Rattle.failure_trace.specs.Entries.{entries_of}
 use Rattle.fact_table.specs.Snapshots.{stamped_facts}
 use Rattle.failure_trace.specs.Firings.{AreFirings}
+use Rattle.tgd_chase.proofs.AddingLemmas.{fits}
 use Rattle.tgd_chase.proofs.RowLemmas.{fresh, rows_more, hold_firing_facts}
 use Rattle.tgd_chase.proofs.chase.fire.Goals as goal
 use Rattle.tgd_chase.proofs.chase.fire.Goals.{After-loop-firing}
+
+pub add_rows-requires-clause-fits : goal.add_rows-requires-clause-fits
+add_rows-requires-clause-fits g c =
+    let listed : List Firing = c.as_slice-firing-items.result.now in
+    let are : AreFirings c.args.rules.now (stamped_facts c.args.table.now) listed =
+    subst (AreFirings c.args.rules.now (stamped_facts c.args.table.now)) (sym c.as_slice-firing-items.ensures) c.in_ok-firings.ensures.firings in
+    fits c.args.rules.now (stamped_facts c.args.table.now) listed c.loop-firing.firing-index c.firing-item.result are c.has_instant.ensures
+    c.loop-firing-test.true c.firing-item.is
 
 pub add_rows-requires-clause-fresh : goal.add_rows-requires-clause-fresh
 add_rows-requires-clause-fresh g c =
