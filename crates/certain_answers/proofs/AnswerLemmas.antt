@@ -1,6 +1,6 @@
 -- What the rows of matches have to do with the answers of a query.
 use Rattle.std.proofs.Common.{◌≡◌, ◌⊎◌, ◌↔◌, inl, inr, ℕ, ℤ, ◌+◌, ◌<◌, Bool, true, false, Option, Some, None, List, [], ◌∷◌, ◌++◌, length, map, take, get_or}
-use Rattle.std.proofs.Common.{refl, sym, ap, ◌∙◌, subst, arith, All, Any, Contains}
+use Rattle.std.proofs.Common.{refl, sym, ap, ◌∙◌, subst, arith, Any, Contains}
 use Rattle.std.specs.Prelude.{slice_get}
 use Rattle.std.proofs.lemmas.List.{length-map, map-append, take_more, append-nil}
 use Rattle.std.proofs.lemmas.List.Elements.{Contains-append_left, Contains-push, Contains-push_cases}
@@ -25,7 +25,7 @@ use Rattle.body_match.specs.Visits.{TakesInTurn}
 use Rattle.body_match.proofs.ListLemmas.{at_within, maps_at}
 use Rattle.body_match.proofs.SnapshotLemmas.{facts_from_match, match_from_facts}
 use Rattle.certain_answers.specs.declared.collecting.Collector.{Collector}
-use Rattle.certain_answers.specs.Answering.{IsAnswerable, IsBranchRow, IsAnswerRow, CoversAnswers}
+use Rattle.certain_answers.specs.Answering.{IsAnswerable, IsBranchRow, CoversAnswers}
 use Rattle.certain_answers.specs.Collected.{constant_shown, IsShown, IsEntryOf, Adds, Collects, AddsBranch}
 
 -- a row of terms over its span

@@ -23,7 +23,7 @@ use Rattle.rule_core.proofs.SnapshotLemmas.{snapshot_covers, covered_in_snapshot
 use Rattle.rule_core.proofs.AnswerLemmas.{answer-after}
 use Rattle.fact_table.specs.Snapshots.{seen_term, facts_of}
 use Rattle.certain_answers.specs.Answering.{IsKnown, AreKnown, CoversAnswers, IsAnsweredOn}
-use Rattle.certain_answers.specs.Shown.{TermTable, place_in, cell_for, row_for, rows_for, rows_from, held_row, held_rows, as_store}
+use Rattle.certain_answers.specs.Shown.{TermTable, place_in, cell_for, rows_for, rows_from, held_row, held_rows, as_store}
 use Rattle.certain_answers.specs.declared.table_rows.TableRow.{TableRow}
 use Rattle.certain_answers.specs.declared.table_rows.TableRows.{TableRows}
 use Rattle.certain_answers.proofs.RankLemmas.{count_is_place}

@@ -1,5 +1,5 @@
 -- Why the answers of a solved exchange are, as they are stored, exactly what is certain of what was read.
-use Rattle.std.proofs.Common.{◌≡◌, ◌↔◌, ℕ, ◌<◌, ℤ, Some, List, [], ◌∷◌, map, length, get_or, refl, sym, ap, ◌∙◌, subst, inr, All, Any, Contains}
+use Rattle.std.proofs.Common.{◌≡◌, ◌↔◌, ℕ, ◌<◌, ℤ, Some, List, [], ◌∷◌, map, length, refl, sym, ap, ◌∙◌, subst, All, Contains}
 use Rattle.std.specs.Prelude.{slice_get}
 use Rattle.std.specs.List.{AllZip}
 use Rattle.std.specs.Ordering.{nat_cmp}
@@ -11,7 +11,7 @@ use Rattle.time_line.specs.Span.{Has, HasInstant}
 use Rattle.term_core.specs.declared.const_id.ConstId.{ConstId}
 use Rattle.term_core.specs.declared.term.Unknown.{Unknown as HeldUnknown}
 use Rattle.term_core.specs.declared.term.Term.{Term}
-use Rattle.term_core.specs.declared.term.Term.TheVariants.{Const, Null}
+use Rattle.term_core.specs.declared.term.Term.TheVariants.{Const}
 use Rattle.term_core.specs.Order.{unknown_cmp, term_cmp}
 use Rattle.term_core.specs.Pool.{IsPool}
 use Rattle.rule_core.specs.declared.rules.Query.{Query}
@@ -24,12 +24,12 @@ use Rattle.rule_core.specs.Coalesced.{Covers, IsCoalesced}
 use Rattle.rule_core.specs.Rebase.{renumbered, renumbered_query, IsRebased}
 use Rattle.rule_core.specs.Renaming.{Renaming, renamed_facts, HoldTheSame, IsRuleConstant, IsQueryConstant}
 use Rattle.rule_core.proofs.ListLemmas.{Contains-map, Contains-from_map}
-use Rattle.mapping_core.specs.Mapping.{HasItsConstants, AnyHasConstant}
+use Rattle.mapping_core.specs.Mapping.{HasItsConstants}
 use Rattle.fact_table.specs.declared.fact.Fact.{Fact}
 use Rattle.fact_table.specs.Snapshots.{snapshot_of, stamped_facts, with_terms}
 use Rattle.body_match.proofs.ListLemmas.{zip_at, zip_length, zip_from_each, contains_from_at, at_map}
 use Rattle.body_match.proofs.SearchLemmas.{same_some}
-use Rattle.exchange_engine.specs.Loading.{LoadedOf, HasEachConstant, AreFactsOf, text_in}
+use Rattle.exchange_engine.specs.Loading.{LoadedOf, HasEachConstant, AreFactsOf}
 use Rattle.exchange_engine.specs.Solved.{TermTable, AreTargetTables, AreWithinPool, AreUnknownsOf, IsTermWithin}
 use Rattle.exchange_engine.specs.Answered.{IsAnsweredBy, AreAnswered}
 use Rattle.exchange_cli.specs.Inputs.{Inputs, name_of, source_of}

@@ -1,16 +1,12 @@
 -- The order of terms as they are stored: texts stand as their numbers do, and numbers of unknowns as the unknowns.
-use Rattle.std.proofs.Common.{◌≡◌, ℕ, suc, ◌+◌, ◌<◌, ◌≤◌, cond, List, [], ◌∷◌, map, length, get_or, refl, sym, ap, ◌∙◌, subst, inl, inr, ⊎_elim, arith, one-add, All, AllPairs, Contains}
-use Rattle.std.specs.Prelude.{count_by, Some, slice_get}
-use Rattle.std.specs.declared.cmp.Ordering.{Ordering}
-use Rattle.std.specs.declared.cmp.Ordering.TheVariants.{Less, Equal, Greater}
-use Rattle.std.specs.Ordering.{nat_cmp, is_lt, ordering_then, ordering_reverse}
+use Rattle.std.proofs.Common.{◌≡◌, ℕ, ◌+◌, ◌<◌, List, [], ◌∷◌, map, length, get_or, refl, sym, ◌∙◌, arith, All, AllPairs, Contains}
+use Rattle.std.specs.Prelude.{Some, slice_get}
+use Rattle.std.specs.declared.cmp.Ordering.TheVariants.{Less}
+use Rattle.std.specs.Ordering.{nat_cmp, ordering_then}
 use Rattle.std.specs.Cmp.{IsTotalOrder}
 use Rattle.std.specs.Cmp.Lexicographic.{slice_cmp}
-use Rattle.std.proofs.lemmas.Bool.{cases_lt}
 use Rattle.std.proofs.lemmas.Bool.Decides.{nat_tests}
-use Rattle.std.proofs.lemmas.Cmp.{tied_itself}
 use Rattle.std.proofs.lemmas.List.Elements.{All-head, All-tail}
-use Rattle.std.proofs.lemmas.List.Sums.{sum_by-cons}
 use Rattle.std.proofs.lemmas.Option.{slice_get-get_or}
 use Rattle.term_core.specs.declared.const_id.ConstId.{ConstId}
 use Rattle.term_core.specs.declared.term.Unknown.{Unknown as HeldUnknown}
@@ -19,7 +15,6 @@ use Rattle.term_core.specs.declared.term.Term.TheVariants.{Const, Null}
 use Rattle.term_core.specs.Order.{id_cmp, unknown_cmp, term_cmp}
 use Rattle.rule_core.specs.Order.{stored_cmp}
 use Rattle.rule_core.specs.Order as stored
-use Rattle.rule_core.proofs.ListLemmas.{Contains-nil, Contains-head, Contains-cons, Contains-cons_cases, AllPairs-head, AllPairs-tail}
 use Rattle.certain_answers.proofs.RankLemmas.{places_cmp, count_before, count_is_place}
 use Rattle.exchange_engine.specs.Loading.{text_in}
 use Rattle.exchange_cli.specs.Rendering.{rank_in, stored_term}

@@ -1,9 +1,7 @@
 -- What is answered on universal tables is certain, and is made of their constants.
-use Rattle.std.proofs.Common.{◌≡◌, ◌↔◌, ℕ, ℤ, ◌<◌, ◌≤◌, Some, List, [], map, length, get_or, refl, sym, ap, ◌∙◌, subst, arith, All, Contains}
+use Rattle.std.proofs.Common.{◌≡◌, ℕ, ℤ, ◌<◌, Some, List, map, length, get_or, refl, sym, ap, ◌∙◌, subst, arith, All, Contains}
 use Rattle.std.specs.Prelude.{slice_get}
 use Rattle.std.specs.List.{AllZip}
-use Rattle.std.specs.Cmp.{IsTotalOrder}
-use Rattle.std.specs.Cmp.Lexicographic.{slice_cmp}
 use Rattle.std.proofs.lemmas.List.{length-map}
 use Rattle.std.proofs.lemmas.List.Elements.{All-contains, All-weaker, Contains-get_or}
 use Rattle.std.proofs.lemmas.Option.{slice_get-get_or}
@@ -12,20 +10,17 @@ use Rattle.term_core.specs.declared.const_id.ConstId.{ConstId}
 use Rattle.term_core.specs.declared.term.Term.{Term}
 use Rattle.term_core.specs.declared.term.Term.TheVariants.{Const, Null}
 use Rattle.term_core.specs.declared.term.Unknown.{Unknown as HeldUnknown}
-use Rattle.term_core.specs.Order.{unknown_cmp, term_cmp}
-use Rattle.rule_core.specs.declared.rules.Arg.{Arg}
 use Rattle.rule_core.specs.declared.rules.Arg.TheVariants.{Var}
 use Rattle.rule_core.specs.declared.rules.Branch.{Branch}
 use Rattle.rule_core.specs.declared.rules.Query.{Query}
 use Rattle.rule_core.specs.declared.rules.Relation.{Relation}
 use Rattle.rule_core.specs.Validity.{IsBranch, IsQuery}
 use Rattle.rule_core.specs.Laws.{CertainIsAnswered}
-use Rattle.rule_core.specs.Terms.{TermOf, constant, FactOf}
+use Rattle.rule_core.specs.Terms.{constant, FactOf}
 use Rattle.rule_core.specs.Values.{term_value}
 use Rattle.rule_core.specs.Snapshot.{snapshot_at}
 use Rattle.rule_core.specs.Match.{value, image}
 use Rattle.rule_core.specs.Answers.{IsAnswer}
-use Rattle.rule_core.specs.Coalesced.{Covers, IsCoalesced}
 use Rattle.rule_core.proofs.ListLemmas.{Contains-map, Contains-from_map}
 use Rattle.rule_core.proofs.SnapshotLemmas.{snapshot_covers}
 use Rattle.fact_table.specs.Snapshots.{snapshot_of}
@@ -36,7 +31,7 @@ use Rattle.certain_answers.specs.Answering.{IsAnswerable, CanAnswer, IsKnown, Ar
 use Rattle.exchange_engine.specs.Loading.{LoadedOf}
 use Rattle.exchange_engine.specs.Solved.{TermTable, AreUniversal, AreUnknownsOf, AreWithinPool, IsTermWithin}
 use Rattle.exchange_engine.specs.Grouped.{table_facts}
-use Rattle.exchange_engine.specs.Answered.{IsCertainRow, IsAnsweredBy, AreAnswered}
+use Rattle.exchange_engine.specs.Answered.{IsAnsweredBy}
 use Rattle.exchange_engine.proofs.TableFactLemmas.{Entry, TargetFact, from_facts}
 
 -- queries of a mapping can be answered

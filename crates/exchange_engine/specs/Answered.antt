@@ -1,5 +1,5 @@
 -- The queries of a mapping as an exchange answers them.
-use Rattle.std.specs.Prelude.{◌≡◌, ◌↔◌, ◌<◌, ℤ, List, map, length, All, Contains}
+use Rattle.std.specs.Prelude.{◌≡◌, ◌↔◌, ℤ, List, map, length, All}
 use Rattle.std.specs.List.{AllZip}
 use Rattle.std.specs.Cmp.Lexicographic.{slice_cmp}
 use Rattle.term_core.specs.declared.const_id.ConstId.{ConstId}

@@ -1,4 +1,4 @@
-use Rattle.std.proofs.Common.{◌≡◌, ◌∙◌, List, sym, subst, get_or, ℕ, rules}
+use Rattle.std.proofs.Common.{◌∙◌, List, sym, subst, get_or, ℕ, rules}
 use Rattle.std.proofs.lemmas.List.{take_all}
 use Rattle.certain_answers.specs.Collected.{IsShown}
 use Rattle.certain_answers.proofs.AnswerLemmas.{shown_more, hidden, constant_read, none_read}

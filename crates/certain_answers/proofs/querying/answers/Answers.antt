@@ -1,4 +1,4 @@
-use Rattle.std.proofs.Common.{◌≡◌, ◌↔◌, ℤ, ◌∙◌, List, length, sym, subst, take}
+use Rattle.std.proofs.Common.{◌≡◌, ◌↔◌, ℤ, ◌∙◌, List, subst, take}
 use Rattle.std.proofs.lemmas.List.{take_all}
 use Rattle.std.proofs.lemmas.Result.{IfOk-weaker}
 use Rattle.term_core.specs.declared.term.Term.{Term}

@@ -1,4 +1,4 @@
-use Rattle.std.proofs.Common.{◌≡◌, ℕ, ◌<◌, ◌↔◌, ◌++◌, [], true, List, length, sym, ap, ◌∙◌, subst, Contains}
+use Rattle.std.proofs.Common.{◌≡◌, ℕ, ◌<◌, ◌↔◌, ◌++◌, [], true, List, sym, ◌∙◌, subst, Contains}
 use Rattle.rule_core.specs.declared.rules.Branch.{Branch}
 use Rattle.rule_core.specs.Validity.{occurrences}
 use Rattle.body_match.specs.declared.found.Match.{Match}

@@ -4,7 +4,7 @@ use Rattle.std.proofs.lemmas.List.{take_more}
 use Rattle.rule_core.specs.declared.rules.Query.{Query}
 use Rattle.fact_table.specs.Rows.{SeenRow}
 use Rattle.certain_answers.specs.Answering.{CoversAnswers, IsAnsweredOn}
-use Rattle.certain_answers.specs.Shown.{TermTable, as_store, rows_from}
+use Rattle.certain_answers.specs.Shown.{TermTable}
 use Rattle.certain_answers.proofs.ShownLemmas.{store_is, zip_push, answered_on}
 use Rattle.certain_answers.proofs.table_answers.answers_of.Goals as goal
 

@@ -1,5 +1,5 @@
 -- The header is that of the relation's columns, which are names.
-use Rattle.std.proofs.Common.{◌≡◌, ℕ, List, map, sym, ◌∙◌, subst}
+use Rattle.std.proofs.Common.{ℕ, List, map, sym, ◌∙◌, subst}
 use Rattle.temporal_csv.specs.Stored.{IsStored, header_of, stamped_row, table_text}
 use Rattle.exchange_cli.proofs.StoringLemmas.{header_some, letters_are}
 use Rattle.exchange_cli.proofs.storing.table_file.Goals as goal

@@ -1,6 +1,6 @@
-use Rattle.std.proofs.Common.{◌≡◌, ◌++◌, ℕ, List, sym, ap, ◌∙◌, subst}
+use Rattle.std.proofs.Common.{◌++◌, ℕ, List, sym, ap, ◌∙◌}
 use Rattle.fact_table.specs.Rows.{SeenRow}
-use Rattle.certain_answers.specs.Shown.{TermTable, held_rows, rows_for, rows_from}
+use Rattle.certain_answers.specs.Shown.{TermTable, held_rows, rows_for}
 use Rattle.certain_answers.proofs.ShownLemmas.{rows_more}
 use Rattle.certain_answers.proofs.table_rows.TableRows.make.Goals as goal
 
