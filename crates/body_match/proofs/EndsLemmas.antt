@@ -81,3 +81,35 @@ start_before_stop (Some lo) (Some hi) t from before l h = omega (arith, ints)
 
 pub meeting_ends : (a b : Ends) → IsSpan a → IsSpan b → (t : ℤ) → Has a t → Has b t → start_number a.lo <ℤ stop_number b.hi
 meeting_ends a b p q t in_a in_b = start_before_stop a.lo b.hi t in_a.0 in_b.1 p.start q.stop
+
+-- a span within another starts no earlier and stops no later
+module _ (a b : Ends) (t : ℤ) (in_a : Has a t) (in_b : Has b t) (into : (s : ℤ) → Has a s → Has b s) where
+  start_within : (x y : Option ℤ) → a.lo ≡ x → b.lo ≡ y → IsWithinLimit x → start_number y ≤ℤ start_number x
+  start_within None None p q limit = ≤ℤ_refl (start_number None)
+  start_within None (Some y) p q limit =
+      let from : y ≤ℤ t = rw q at in_b.0 in
+      let h : y ≤ℤ (y -ℤ pos 1) = starts a b t in_a in_b into (y -ℤ pos 1) y q (rw p tt) (omega (arith, ints)) in
+      absurd (omega (arith, ints))
+  start_within (Some x) None p q limit = let low = limit.0 in omega (arith, ints)
+  start_within (Some x) (Some y) p q limit =
+      let from : x ≤ℤ t = rw p at in_a.0 in
+      starts a b t in_a in_b into x y q (rw p (≤ℤ_refl x)) from
+
+  stop_within : (x y : Option ℤ) → a.hi ≡ x → b.hi ≡ y → IsWithinLimit x → stop_number x ≤ℤ stop_number y
+  stop_within None None p q limit = ≤ℤ_refl (stop_number None)
+  stop_within None (Some y) p q limit =
+      let before : t <ℤ y = rw q at in_b.1 in
+      let h : y <ℤ y = stops a b t in_a in_b into y y q (rw p tt) (omega (arith, ints)) in
+      absurd (omega (arith, ints))
+  stop_within (Some x) None p q limit = let high = limit.1 in omega (arith, ints)
+  stop_within (Some x) (Some y) p q limit =
+      let before : t <ℤ y = rw q at in_b.1 in
+      by_lt_z x y (λ l. omega (arith, ints)) (λ g. by_lt_z y x
+      (λ l. let h : y <ℤ y = stops a b t in_a in_b into y y q (rw p l) (omega (arith, ints)) in absurd (omega (arith, ints)))
+      (λ h. h))
+
+pub starts_no_earlier : (a b : Ends) → IsSpan a → ((s : ℤ) → Has a s → Has b s) → start_number b.lo ≤ℤ start_number a.lo
+starts_no_earlier a b is into = start_within a b is.instant.0 is.instant.1 (into is.instant.0 is.instant.1) into a.lo b.lo refl refl is.start
+
+pub stops_no_later : (a b : Ends) → IsSpan a → ((s : ℤ) → Has a s → Has b s) → stop_number a.hi ≤ℤ stop_number b.hi
+stops_no_later a b is into = stop_within a b is.instant.0 is.instant.1 (into is.instant.0 is.instant.1) into a.hi b.hi refl refl is.stop

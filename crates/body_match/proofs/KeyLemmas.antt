@@ -1,9 +1,10 @@
 -- Keys, and that a row which may be chosen next is found under its key.
-use Rattle.std.proofs.Common.{◌≡◌, ℕ, ℤ, ◌<◌, ◌<ℤ◌, Option, Some, None, List, [], ◌∷◌, ◌++◌, length, fold, refl, sym, ap, ◌∙◌, subst, All, Contains, get_or}
+use Rattle.std.proofs.Common.{◌≡◌, ℕ, ℤ, ◌<◌, ◌<ℤ◌, ◌≤ℤ◌, arith, Option, Some, None, List, [], ◌∷◌, ◌++◌, length, fold, refl, sym, ap, ◌∙◌, subst, All, Contains, get_or}
 use Rattle.std.specs.Prelude.{slice_get, IsSome}
 use Rattle.std.specs.Option.{option_and_then}
 use Rattle.std.proofs.lemmas.Option.{get_or_from_slice_get}
 use Rattle.std.proofs.lemmas.Bool.{false≢true}
+use Rattle.std.proofs.lemmas.Int.{ints}
 use Rattle.std.proofs.lemmas.List.{length-map}
 use Rattle.std.proofs.lemmas.List.Elements.{Contains-get_or}
 use Rattle.time_line.specs.Span.{Ends, Has, IsSpan}
@@ -23,6 +24,13 @@ use Rattle.body_match.specs.Search.{Task, IsTask, placed_value, value_in, IsPart
 use Rattle.body_match.proofs.ListLemmas.{at_within, within_from_at, at_front}
 use Rattle.body_match.proofs.EndsLemmas.{meeting_ends}
 use Rattle.body_match.proofs.SearchLemmas.{some_and, same_some, image_cell, placed_var, next_image, next_agrees, next_meets}
+
+-- instants in order
+no_later : (a b c : ℤ) → a ≤ℤ b → b <ℤ c → a <ℤ c
+no_later a b c p q = omega (arith, ints)
+
+no_earlier : (a b c : ℤ) → a <ℤ b → b ≤ℤ c → a <ℤ c
+no_earlier a b c p q = omega (arith, ints)
 
 keys_same : (f g : ℕ → Option Seen) (columns : List ℕ) (key : ℕ) → ((column : ℕ) → Contains columns column → f column ≡ g column)
     → fold (λ key column. mixed_some key (f column)) key columns ≡ fold (λ key column. mixed_some key (g column)) key columns
@@ -83,12 +91,12 @@ module _ (task : Task) (ok : IsTask task) (chosen : List ℕ) (span : Ends) (par
     pub finds_next : (level : Level) (probe : Probe) (rows : List ℕ) → level.columns.items ≡ columns
         → IsLevel task.places task.rows (length chosen) atom level → probe.key ≡ key_of (value_in task chosen atom) columns
         → probe.from ≡ start_number span.lo → probe.to ≡ stop_number span.hi → IsSpan span
-        → HasSought level.lookup.entries probe rows → HasNext task chosen rows
+        → HasSought level.listed probe rows → HasNext task chosen rows
     finds_next level probe rows read ok_level key from to is_span sought found number h =
         let image = some_and (IsImage (seen_value found.binding) atom) (row_at task.rows number)
         (next_image task ok chosen span partial number atom next found h) in
         let arity = sym (length-map image.0.cells Some) ∙ ap length image.2.cells ∙ length-map atom.args (seen_value found.binding) in
-        let listed = ok_level.listed number image.0 (number_within task.rows number image.0 image.1)
+        let listed = ok_level.listed number (number_within task.rows number image.0 image.1) image.0
         (record { there = image.1; relation = image.2.relation; arity = arity }) in
         let entry = listed.2 in
         let meets = next_meets task ok chosen span partial number atom next found h in
@@ -100,8 +108,10 @@ module _ (task : Task) (ok : IsTask task) (chosen : List ℕ) (span : Ends) (par
         subst (Contains rows) entry.row (sought listed.0 listed.1 (record {
           key = entry.key ∙ ap (key_of (cell_at task.rows number)) read
               ∙ key_same (cell_at task.rows number) (value_in task chosen atom) columns (same_cells found number h) ∙ sym key;
-          from = subst (λ (x : ℤ). x <ℤ probe.to) (sym entry.from) (subst (λ (x : ℤ). start_number image.0.span.lo <ℤ x) (sym to) start);
-          to = subst (λ (x : ℤ). x <ℤ listed.0.to) (sym from) (subst (λ (x : ℤ). start_number span.lo <ℤ x) (sym entry.to) stop);
+          from = no_later listed.0.from (start_number image.0.span.lo) probe.to entry.from
+              (subst (λ (x : ℤ). start_number image.0.span.lo <ℤ x) (sym to) start);
+          to = subst (λ (x : ℤ). x <ℤ listed.0.to) (sym from)
+              (no_earlier (start_number span.lo) (stop_number image.0.span.hi) listed.0.to stop entry.to);
         }))
 
 -- what an argument stands for, as the code reads it

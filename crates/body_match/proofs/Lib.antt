@@ -11,3 +11,7 @@ pub mod GiveLemmas
 pub mod ExistLemmas
 pub mod ListingLemmas
 pub mod SnapshotLemmas
+pub mod PlanLemmas
+pub mod RegisterLemmas
+pub mod IndexLemmas
+pub mod UnequalLemmas

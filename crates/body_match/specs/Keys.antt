@@ -1,5 +1,5 @@
 -- Keys of rows by what stands in some of their columns. No public clause cites this module.
-use Rattle.std.specs.Prelude.{◌≡◌, ℕ, ℤ, pos, negsuc, ◌+◌, ◌*◌, ◌%◌, ◌^◌, ◌<◌, ◌≤◌, ◌-◌, List, Option, Some, None, Contains, length, fold, slice_get}
+use Rattle.std.specs.Prelude.{◌≡◌, ℕ, ℤ, pos, negsuc, ◌+◌, ◌*◌, ◌%◌, ◌^◌, ◌<◌, ◌≤◌, ◌-◌, ◌≤ℤ◌, List, Option, Some, None, Contains, length, fold, slice_get}
 use Rattle.std.specs.Bool.{⊤}
 use Rattle.time_line.specs.Span.{IsSpan}
 use Rattle.term_core.specs.declared.term.Seen.{Seen}
@@ -49,12 +49,12 @@ abbrev pub stop_number : Option ℤ → ℤ
 stop_number None = pos 9223372036854775807
 stop_number (Some hi) = hi
 
--- the row is listed by the entry, under the key of its cells in the columns
+-- the row is listed by the entry, under the key of its cells in the columns and over no less than its time
 pub record IsEntryOf (rows : List (Option SeenRow)) (columns : List ℕ) (number : ℕ) (seen : SeenRow) (entry : Entry) : Type 0 where
   pub row : entry.row ≡ number
   pub key : entry.key ≡ key_of (cell_at rows number) columns
-  pub from : entry.from ≡ start_number seen.span.lo
-  pub to : entry.to ≡ stop_number seen.span.hi
+  pub from : entry.from ≤ℤ start_number seen.span.lo
+  pub to : stop_number seen.span.hi ≤ℤ entry.to
   pub span : IsSpan seen.span
 
 -- the row has the atom's form
@@ -63,17 +63,26 @@ pub record HasForm (rows : List (Option SeenRow)) (atom : Atom) (number : ℕ) (
   pub relation : row.relation ≡ atom.relation
   pub arity : length row.cells ≡ length atom.args
 
+-- if the row has the atom's form, it is listed
+abbrev pub ListsOne : List (Option SeenRow) → Atom → List ℕ → ℕ → List Entry → Type 0
+ListsOne rows atom columns number entries = (row : SeenRow) → HasForm rows atom number row
+    → (entry : Entry) × Contains entries entry × IsEntryOf rows columns number row entry
+
 -- each of the first rows that has the atom's form is listed
 abbrev pub ListsRows : List (Option SeenRow) → Atom → List ℕ → ℕ → List Entry → Type 0
-ListsRows rows atom columns first entries = (number : ℕ) (row : SeenRow) → number < first → HasForm rows atom number row
-    → (entry : Entry) × Contains entries entry × IsEntryOf rows columns number row entry
+ListsRows rows atom columns first entries = (number : ℕ) → number < first → ListsOne rows atom columns number entries
 
 -- the columns are bound by the atoms before this one, and each row of its form is listed
 pub record IsLevel (places : List Place) (rows : List (Option SeenRow)) (before : ℕ) (atom : Atom) (level : Level) : Type 0 where
   pub bound : AreBound places before atom level.columns.items
-  pub listed : ListsRows rows atom level.columns.items (length rows) level.lookup.entries
+  pub listed : ListsRows rows atom level.columns.items (length rows) level.listed
 
 -- there is a level for each of the first atoms but the very first
 abbrev pub AreLevels : List Atom → List Place → List (Option SeenRow) → ℕ → List Level → Type 0
 AreLevels body places rows first levels = (before : ℕ) (atom : Atom) → 1 ≤ before → before < first → slice_get body before ≡ Some atom
     → (level : Level) × (slice_get levels (before - 1) ≡ Some level) × IsLevel places rows before atom level
+
+-- the row is listed for each atom behind the first whose form it has
+abbrev pub IsListedUnder : List Atom → List Level → List (Option SeenRow) → ℕ → Type 0
+IsListedUnder body levels rows number = (before : ℕ) (atom : Atom) (level : Level) → 1 ≤ before → slice_get body before ≡ Some atom
+    → slice_get levels (before - 1) ≡ Some level → ListsOne rows atom level.columns.items number level.listed

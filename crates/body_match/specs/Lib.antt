@@ -6,3 +6,6 @@ pub mod Lookup
 pub mod Places
 pub mod Search
 pub mod Listings
+pub mod Index
+pub mod Plans
+pub mod Unequal

@@ -1,5 +1,5 @@
 -- Entries under keys, and the tree above them. No public clause cites this module.
-use Rattle.std.specs.Prelude.{◌≡◌, ◌⊎◌, ℕ, ◌+◌, ◌*◌, ◌/◌, ◌<◌, ◌≤◌, zero, suc, ◌≤ℤ◌, ◌<ℤ◌, ◌^◌, List, Some, Contains, length, slice_get}
+use Rattle.std.specs.Prelude.{◌≡◌, ◌⊎◌, ℕ, ◌+◌, ◌*◌, ◌/◌, ◌<◌, ◌≤◌, zero, suc, ◌≤ℤ◌, ◌<ℤ◌, ◌^◌, List, Some, Contains, length, slice_get, ◌++◌, flat_map}
 use Rattle.body_match.specs.declared.lookup.Entry.{Entry}
 use Rattle.body_match.specs.declared.lookup.Probe.{Probe}
 use Rattle.body_match.specs.declared.lookup.Reach.{Reach}
@@ -76,3 +76,11 @@ pub record AddsBelow (tree : Tree) (node : ℕ) (probe : Probe) (old new : List 
 -- all rows that are sought are there
 abbrev pub HasSought : List Entry → Probe → List ℕ → Type 0
 HasSought entries probe rows = (entry : Entry) → Contains entries entry → IsSought probe entry → Contains rows entry.row
+
+-- all entries of look-ups
+abbrev pub all_in : List Tree → List Entry
+all_in lookups = flat_map (λ lookup. lookup.entries) lookups
+
+-- the entries of look-ups, and behind them others
+abbrev pub entries_in : List Tree → List Entry → List Entry
+entries_in lookups last = all_in lookups ++ last

@@ -1,13 +1,14 @@
 //! For each atom behind the first, the rows of its form under what stands in the columns that earlier atoms or constants tell.
 
-ghost use Rattle.std.specs.Prelude.{◌≡◌, ◌↔◌, ◌<◌, ◌≤◌, ◌+◌, ℕ, Some, All, Contains, length, IsTrue, IfOk, OnOk, slice_get};
+ghost use Rattle.std.specs.Prelude.{◌≡◌, ◌↔◌, ◌<◌, ◌≤◌, ◌+◌, ℕ, Some, All, Contains, length, IsTrue, IfOk, OnOk, IfSome, IfNone, slice_get};
 ghost use Rattle.fact_table.specs.Rows.{HasCell, SeenRow, cell_at};
 ghost use Rattle.time_line.specs.Span.{IsSpan};
 ghost use Rattle.body_match.specs.declared.lookup.Entry.{Entry};
-ghost use Rattle.body_match.specs.Keys.{AreBound, AreLevels, HasForm, IsBound, IsEntryOf, IsLevel, ListsRows, cell_number, key_of, mixed, start_number, stop_number};
+ghost use Rattle.body_match.specs.Keys.{AreBound, AreLevels, HasForm, IsBound, IsEntryOf, IsLevel, ListsOne, ListsRows, cell_number, key_of, mixed, start_number, stop_number};
 
-use crate::lookup::{Entry, Lookup, Probe};
+use crate::lookup::{Entry, Probe};
 use crate::places::Place;
+use crate::register::Register;
 use fact_table::{FactSource, RowHead};
 use rule_core::{Arg, Atom};
 use std::alloc::Global;
@@ -25,7 +26,7 @@ const PIECES: u64 = 9223372036854775808;
 #[derive(Drop)]
 pub struct Level {
     pub columns: Vec<usize>,
-    pub lookup: Lookup,
+    pub listed: Register,
 }
 
 /// A level for each atom behind the first.
@@ -60,8 +61,8 @@ fn level_of<F: FactSource, L: Ledger>(
 {
     let columns = columns_of(alloc, atom, before, places)?;
     let entries = entries_of(alloc, atom, columns.as_slice(), source, steps)?;
-    let lookup = Lookup::make(alloc, entries)?;
-    Ok(Level { columns, lookup })
+    let listed = Register::make(alloc, entries)?;
+    Ok(Level { columns, listed })
 }
 
 // The columns of an atom in which rows of earlier atoms, or constants, tell what stands.
@@ -131,15 +132,55 @@ fn add_row<F: FactSource, L: Ledger>(
         → (entry : Entry) × Contains entries.new.items entry
         × IsEntryOf (F.rows source.now) columns.now row seen entry) }
 {
-    let Some(head) = source.head(row) else {
+    let Some(entry) = entry_for(atom, columns, source, row, steps) else {
         return Ok(());
     };
+    entries.push(entry)?;
+    Ok(())
+}
+
+// The entry of a row, if it has the atom's form.
+fn entry_for<F: FactSource, L: Ledger>(
+    atom: &Atom,
+    columns: &[usize],
+    source: &F,
+    row: usize,
+    steps: &mut Steps<L>,
+) -> Option<Entry>
+    requires { (column : ℕ) → Contains columns.now column → column < length atom.now.args }
+    ensures some { IfSome result (λ entry. (seen : SeenRow)
+        → HasForm (F.rows source.now) atom.now row seen
+        → IsEntryOf (F.rows source.now) columns.now row seen entry) }
+    ensures none { IfNone result ((seen : SeenRow) → ¬ (HasForm (F.rows source.now) atom.now row seen)) }
+{
+    let head = source.head(row)?;
     if !has_form(&head, atom) {
-        return Ok(());
+        return None;
     }
     let key = row_key(source, columns, row, steps);
-    entries.push(entry_of(key, &head.span, row))?;
-    Ok(())
+    Some(entry_of(key, &head.span, row))
+}
+
+/// Lists a row, if it has the atom's form.
+pub fn list_in<F: FactSource, L: Ledger>(
+    alloc: Global,
+    atom: &Atom,
+    level: &mut Level,
+    source: &F,
+    row: usize,
+    steps: &mut Steps<L>,
+) -> Result<(), Memory>
+    requires { (column : ℕ) → Contains level.old.columns.items column → column < length atom.now.args }
+    ensures columns { level.new.columns.items ≡ level.old.columns.items }
+    ensures kept { OnOk result ((entry : Entry)
+        → Contains level.old.listed entry → Contains level.new.listed entry) }
+    ensures listed { OnOk result
+        (ListsOne (F.rows source.now) atom.now level.new.columns.items row level.new.listed) }
+{
+    match entry_for(atom, level.columns.as_slice(), source, row, steps) {
+        Some(entry) => level.listed.add(alloc, entry),
+        None => Ok(()),
+    }
 }
 
 // The entry of a row under a key, with its span.

@@ -6,14 +6,19 @@
 #![tactic(auto)]
 
 mod found;
+mod index;
 pub mod laws;
 mod levels;
 mod listing;
 mod lookup;
 mod places;
+mod plan;
+mod register;
 mod search;
+mod unequal;
 mod visit;
 
 pub use found::Match;
+pub use index::BodyIndex;
 pub use listing::{matches, matches_with};
 pub use visit::{Visitor, visit_matches};

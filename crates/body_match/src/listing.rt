@@ -99,8 +99,8 @@ impl Visitor for Listing {
     }
 }
 
-// A copy of a match.
-fn copy_of(alloc: Global, found: &Match) -> Result<Match, Memory>
+/// A copy of a match.
+pub fn copy_of(alloc: Global, found: &Match) -> Result<Match, Memory>
     ensures { IfOk result (λ copy. copy ≡ found.now) }
 {
     Ok(Match {

@@ -100,8 +100,8 @@ fn later(a: i64, b: i64) -> i64
     if a < b { b } else { a }
 }
 
-// Adds the row of an entry if it is sought.
-fn add_if_sought(entry: Entry, probe: &Probe, rows: &mut Vec<usize>) -> Result<(), Memory>
+/// Adds the row of an entry if it is sought.
+pub fn add_if_sought(entry: Entry, probe: &Probe, rows: &mut Vec<usize>) -> Result<(), Memory>
     ensures kept { OnOk result (Keeps rows.old.items rows.new.items) }
     ensures sought { OnOk result
         (IsSought probe.now entry → Contains rows.new.items entry.row) }
@@ -158,9 +158,29 @@ impl Lookup {
         })
     }
 
+    /// How many entries there are.
+    pub fn len(&self) -> usize
+        ensures { result ≡ length self.now.entries }
+    {
+        self.entries.len()
+    }
+
+    /// The entries.
+    pub fn into_entries(self) -> Vec<Entry>
+        ensures { result.items ≡ self.entries }
+    {
+        let Lookup {
+            entries,
+            reaches: _,
+            leaves: _,
+        } = self;
+        entries
+    }
+
     /// Adds at least the rows that are sought.
     pub fn gather(&self, probe: &Probe, rows: &mut Vec<usize>) -> Result<(), Memory>
-        ensures { OnOk result (HasSought self.now.entries probe.now rows.new.items) }
+        ensures sought { OnOk result (HasSought self.now.entries probe.now rows.new.items) }
+        ensures kept { OnOk result (Keeps rows.old.items rows.new.items) }
     {
         self.gather_below(self.root(), probe, rows)
     }

@@ -139,6 +139,35 @@ pub fn visit_all<F: FactSource, V: Visitor, L: Ledger>(
     extend(alloc, search, &mut walk, always(), visitor, steps)
 }
 
+/// Gives a visitor the matches that have the row at the first atom, in the same way.
+pub fn visit_from<F: FactSource, V: Visitor, L: Ledger>(
+    alloc: Global,
+    search: &Search<'_, F>,
+    row: usize,
+    visitor: &mut V,
+    steps: &mut Steps<L>,
+) -> Result<bool, Memory>
+    requires { 1 ≤ length search.now.body }
+    ensures gives { IfOk result (Gives V.takes (IsListedFrom search.now (row ∷ []))
+        visitor.old visitor.new) }
+    ensures stops { IfOk result (λ more. more ≡ false → V.stops visitor.new) }
+{
+    let mut walk = walk_for(alloc, search)?;
+    extend_by(alloc, search, &mut walk, &always(), row, visitor, steps)
+}
+
+// No row chosen yet, with room for what a match has.
+fn walk_for<F: FactSource>(alloc: Global, search: &Search<'_, F>) -> Result<Walk, Memory>
+    ensures { IfOk result (λ walk. walk.chosen.items ≡ []) }
+{
+    Ok(Walk {
+        chosen: Vec::with_capacity(alloc, search.body().len())?,
+        next: Vec::new(alloc),
+        found: Vec::new(alloc),
+        values: Vec::with_capacity(alloc, search.places().len())?,
+    })
+}
+
 // The span of all instants.
 fn always() -> Span
     ensures { (t : ℤ) → Has result t }
@@ -275,7 +304,7 @@ fn look_up<F: FactSource, L: Ledger>(
     let level = &search.levels()[chosen.len() - 1];
     let atom = &search.body()[chosen.len()];
     let key = chosen_key(search, chosen, atom, level.columns.as_slice(), steps);
-    level.lookup.gather(&probe_of(key, span), found)
+    level.listed.gather(&probe_of(key, span), found)
 }
 
 // The key of what the arguments in columns of the next atom stand for.

@@ -1,0 +1,58 @@
+use Rattle.std.proofs.Common.{◌<◌, ◌≤◌, ◌+◌, ℕ, List, length, Contains, sym, subst}
+use Rattle.rule_core.specs.declared.rules.Atom.{Atom}
+use Rattle.rule_core.specs.Validity.{occurrences}
+use Rattle.body_match.specs.declared.places.Place.{Place}
+use Rattle.body_match.specs.Keys.{AreLevels}
+use Rattle.body_match.specs.Plans.{IsOrder, IsOrdered}
+use Rattle.body_match.specs.Places.{AreFirstPlaces}
+use Rattle.body_match.proofs.PlanLemmas.{order_below}
+use Rattle.body_match.proofs.IndexLemmas.{occurs_in_order, told_at, each_listed}
+use Rattle.body_match.proofs.plan.Plan.make.Given.{Over}
+use Rattle.body_match.proofs.plan.Plan.make.Goals as goal
+use Rattle.body_match.proofs.plan.Plan.make.Goals.{After-as_slice-3, In_ok-body, In_ok-levels}
+
+-- the order is one of the body's places
+is_order : (g : Over) (c : After-as_slice-3 g) → IsOrder (length c.args.body.now) c.args.first c.in_ok-order.order.items
+is_order g c = subst (λ (l : List Atom). IsOrder (length l) c.args.first c.in_ok-order.order.items) c.as_slice.ensures c.in_ok-order.ensures
+
+-- the atoms are in this order
+in_order : (g : Over) (c : In_ok-body g) → IsOrdered c.args.body.now c.in_ok-order.order.items c.in_ok-body.body
+in_order g c =
+    subst (λ (l : List Atom). IsOrdered l c.in_ok-order.order.items c.in_ok-body.body) c.as_slice-2.ensures
+    (subst (λ (l : List ℕ). IsOrdered c.as_slice-2.result.now l c.in_ok-body.body) c.as_slice-3.ensures.value c.in_ok-body.ensures)
+
+-- the levels are those of the atoms
+are_levels : (g : Over) (c : In_ok-levels g)
+    → AreLevels c.in_ok-body.body c.in_ok-places.places.items (g.F.FactSource.rows c.args.source.now) (length c.in_ok-body.body) c.in_ok-levels.levels.items
+are_levels g c =
+    let rows = g.F.FactSource.rows c.args.source.now in
+    subst (λ (l : List Place). AreLevels c.in_ok-body.body l rows (length c.in_ok-body.body) c.in_ok-levels.levels.items) c.as_slice-6.ensures.value
+    (subst (λ (l : List Atom). AreLevels l c.as_slice-6.result.now rows (length l) c.in_ok-levels.levels.items) c.as_slice-5.ensures
+    c.in_ok-levels.ensures.levels)
+
+pub atoms_in-requires : goal.atoms_in-requires
+atoms_in-requires g c = λ place h.
+    let body : List Atom = c.args.body.now in
+    subst (λ (l : List Atom). place < length l) (sym c.as_slice-2.ensures)
+    (order_below (length body) c.in_ok-order.order.items (is_order g c).moved place
+    (subst (λ (l : List ℕ). Contains l place) c.as_slice-3.ensures.value h))
+
+pub first_places-requires : goal.first_places-requires
+first_places-requires g c = λ v l.
+    subst (λ (atoms : List Atom). Contains (occurrences atoms) v) (sym c.as_slice-4.ensures)
+    (occurs_in_order c.args.body.now c.in_ok-order.order.items (is_order g (goal.at.first_places-requires g c).After-as_slice-3).moved
+    c.in_ok-body.body (in_order g (goal.at.first_places-requires g c).In_ok-body) v ((c.requires.vars v).1 l))
+
+pub returns-clause-plan : goal.returns-clause-plan
+returns-clause-plan g c = record {
+  order = is_order g (goal.at.returns-clause-plan g c).After-as_slice-3;
+  atoms = in_order g (goal.at.returns-clause-plan g c).In_ok-body;
+  places = subst (λ (l : List Atom). AreFirstPlaces l c.args.vars c.in_ok-places.places.items) c.as_slice-4.ensures c.in_ok-places.ensures;
+  size = subst (λ (l : List Atom). length l ≤ length c.in_ok-levels.levels.items + 1) c.as_slice-5.ensures c.in_ok-levels.ensures.size;
+  told = told_at c.in_ok-body.body c.in_ok-places.places.items (g.F.FactSource.rows c.args.source.now) c.in_ok-levels.levels.items
+      (are_levels g c);
+}
+
+pub returns-clause-lists : goal.returns-clause-lists
+returns-clause-lists g c =
+    each_listed c.in_ok-body.body c.in_ok-places.places.items (g.F.FactSource.rows c.args.source.now) c.in_ok-levels.levels.items (are_levels g c)
