@@ -13,5 +13,5 @@ pub mod GrowthLemmas
 pub mod ThereLemmas
 pub mod FiringLemmas
 pub mod SoundLemmas
-pub mod SubstituteLemmas
 pub mod LawLemmas
+pub mod SubstituteLemmas

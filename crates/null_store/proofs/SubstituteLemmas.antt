@@ -1,26 +1,30 @@
 -- A store in which a value is written to each cell that held a piece.
-use Rattle.std.proofs.Common.{◌≡◌, ◌≢◌, ℕ, ◌<◌, if◌then◌else◌, Bool, true, false, Option, Some, None, List, length, map, set, refl, sym, ap, ◌∙◌, subst, arith, ⊎_elim, All, Contains}
+use Rattle.std.proofs.Common.{◌≡◌, ◌≢◌, ℤ, ℕ, ◌<◌, if◌then◌else◌, Bool, true, false, Option, Some, None, List, length, map, set, refl, sym, ap, ◌∙◌, subst, arith, ⊎_elim, All, Contains}
 use Rattle.std.specs.Prelude.{slice_get, IsSomeAnd, ⊤}
-use Rattle.std.specs.Option.{option_and_then, option_map}
+use Rattle.std.specs.Option.{option_and_then, option_map, option_map_or}
 use Rattle.std.proofs.lemmas.Bool.{cases_eq}
 use Rattle.std.proofs.lemmas.List.{map-set, length-map}
 use Rattle.std.proofs.lemmas.List.Elements.{All-weaker, All-map, All-set, All-same, All-contains}
 use Rattle.std.proofs.lemmas.Option.{slice_get-map, slice_get_within}
-use Rattle.time_line.specs.Span.{Ends}
+use Rattle.time_line.specs.Span.{Ends, Has}
 use Rattle.term_core.specs.declared.term.Seen.{Seen}
 use Rattle.term_core.specs.declared.term.Seen.TheVariants.{Const, Piece}
+use Rattle.rule_core.specs.Terms.{numbered, unknown}
+use Rattle.rule_core.specs.Values.{unknown_value}
 use Rattle.fact_table.specs.Rows.{SeenRow, row_at, cell_at}
 use Rattle.row_arena.specs.declared.cell.Cell.{Cell}
 use Rattle.row_arena.specs.Arena.{IsArena, row_in, cell_in}
 use Rattle.null_store.specs.declared.piece.NamedPiece.{NamedPiece}
-use Rattle.null_store.specs.Store.{NameOf, PieceOf, Spare, Store, piece_at, IsLive, IsLiveOver, HoldsPiece, IsStore}
-use Rattle.null_store.specs.Changes.{instead, row_instead, ReplacesCells, CanStandFor, Substitutes}
+use Rattle.null_store.specs.Store.{NameOf, PieceOf, Spare, Store, piece_at, term_in, fact_in, IsLive, IsLiveOver, HoldsPiece, IsStore}
+use Rattle.null_store.specs.Changes.{instead, row_instead, ReplacesCells, CanStandFor, Substitutes, BecomesTerm, BecomesFact, SubstitutesTerm}
 use Rattle.null_store.specs.Lists.{rows_seen, IsOccurrenceList, HasOccurrences}
 use Rattle.null_store.specs.Facts.{KeepsFacts}
 use Rattle.null_store.specs.Layout.{LinkedArena, HasSameRoom, EndsPiece, with_name, piece_of, store_of, ended, IsSound}
-use Rattle.null_store.proofs.ListLemmas.{some_and, and_some, holds_at, stands, set_here, set_else, at_from_contains, contains_from_at, contains_map}
+use Rattle.null_store.proofs.ListLemmas.{some_and, and_some, same_some, holds_at, stands, set_here, set_else, at_from_contains, contains_from_at, contains_map, at_map, map_map}
 use Rattle.null_store.proofs.JoinLemmas.{instead_here, instead_else}
 use Rattle.null_store.proofs.OccurrenceLemmas.{from_map, seen_from}
+use Rattle.null_store.proofs.ViewLemmas.{map_same}
+use Rattle.null_store.proofs.LawLemmas.{one_cell}
 
 -- a live piece as it is laid out
 pub piece_is : (held : LinkedArena) (names : List NameOf) (piece : ℕ) (p : NamedPiece) (n : NameOf) → slice_get held.pieces piece ≡ Some p
@@ -104,6 +108,79 @@ module _ (rows later : List (Option SeenRow)) (pieces : List (Option PieceOf)) (
       distinct = ok.distinct;
     }
 
+    not_piece : (v : Seen) → CanStandFor old piece its v → ¬ (v ≡ Piece piece)
+    not_piece (Const c) h e = cc
+    not_piece (Piece other) h e = h.0 cc
+
+    -- a cell that holds another value holds the same term
+    term_stays : (v : Seen) → ¬ (v ≡ Piece piece) → term_in new v ≡ term_in old v
+    term_stays (Const c) n = refl
+    term_stays (Piece q) n =
+        ap (λ (o : Option PieceOf). option_map_or (λ p. unknown (unknown_value p.unknown)) o (unknown (numbered q)))
+        (others_stay q (λ e. n (ap Piece e)))
+
+    abbrev become : SeenRow → SeenRow
+    become row = row_instead piece by row
+
+    its_row : (number : ℕ) (row : SeenRow) → row_at rows number ≡ Some row → row_at later number ≡ Some (become row)
+    its_row number row e = cells number ∙ ap (option_map (row_instead piece by)) e
+
+    -- one term of a row at an instant of the piece
+    becomes_term : (t : ℤ) → Has its.span t → (number : ℕ) (row : SeenRow) → row_at rows number ≡ Some row → Has row.span t
+        → (v : Seen) → Contains row.cells v
+        → BecomesTerm (term_in old (Piece piece)) (term_in old by) (term_in old v) (term_in new (instead piece by v))
+    becomes_term t in_piece number row e in_row v c =
+        let live = All-contains (IsLiveOver old row.span) row.cells v (ok.live number row e) c in
+        let its_live = and_some (λ (p : PieceOf). p.span ≡ its.span) (piece_at old piece) its is refl in
+        record {
+          its = λ same.
+              let cell = one_cell old ok row.span its.span (t, in_row, in_piece) v (Piece piece) live its_live same in
+              ap (term_in new) (instead_here piece by v cell) ∙ term_stays by (not_piece by can);
+          rest = λ differ.
+              let other : ¬ (v ≡ Piece piece) = λ same. differ (ap (term_in old) same) in
+              ap (term_in new) (instead_else piece by v other) ∙ term_stays v other;
+        }
+
+    becomes_fact : (t : ℤ) → Has its.span t → (number : ℕ) (row : SeenRow) → row_at rows number ≡ Some row → Has row.span t
+        → BecomesFact (term_in old (Piece piece)) (term_in old by) (fact_in old row) (fact_in new (become row))
+    becomes_fact t in_piece number row e in_row = record {
+      relation = refl;
+      arity = length-map (map (instead piece by) row.cells) (term_in new) ∙ length-map row.cells (instead piece by)
+          ∙ sym (length-map row.cells (term_in old));
+      terms = λ k x y a b.
+          let v = from_map (term_in old) (slice_get row.cells k) x (sym (slice_get-map (term_in old) row.cells k) ∙ a) in
+          let there = at_map (term_in new) (map (instead piece by) row.cells) k (instead piece by v.0)
+          (at_map (instead piece by) row.cells k v.0 v.1) in
+          let one = becomes_term t in_piece number row e in_row v.0 (contains_from_at row.cells k v.0 v.1) in
+          subst (λ w. BecomesTerm (term_in old (Piece piece)) (term_in old by) w y) v.2
+          (subst (BecomesTerm (term_in old (Piece piece)) (term_in old by) (term_in old v.0))
+          (same_some (slice_get (map (term_in new) (map (instead piece by) row.cells)) k) (term_in new (instead piece by v.0)) y there b)
+          one);
+      span = refl;
+    }
+
+    -- a row that does not hold the piece
+    stays_fact : (row : SeenRow) → ¬ (Contains row.cells (Piece piece)) → fact_in new (become row) ≡ fact_in old row
+    stays_fact row never =
+        let terms = map_map (term_in new) (instead piece by) row.cells
+        ∙ map_same (λ v. term_in new (instead piece by v)) (term_in old) row.cells (λ k v at.
+        let other : ¬ (v ≡ Piece piece) =
+        λ same. never (subst (Contains row.cells) same (contains_from_at row.cells k v at)) in
+        ap (term_in new) (instead_else piece by v other) ∙ term_stays v other) in
+        λ i. record { row = record { relation = row.relation; terms = terms i }; span = row.span }
+
+    pub substitutes_term : SubstitutesTerm piece by old new
+    substitutes_term = record {
+      within = λ t in_piece number row e in_row.
+          and_some (λ (w : SeenRow). BecomesFact (term_in old (Piece piece)) (term_in old by) (fact_in old row) (fact_in new w))
+          (row_at later number) (become row) (its_row number row e)
+          (becomes_fact t (holds_at (λ (p : PieceOf). Has p.span t) (piece_at old piece) its is in_piece) number row e in_row);
+      others = λ number row e never.
+          and_some (λ (w : SeenRow). fact_in new w ≡ fact_in old row) (row_at later number) (become row) (its_row number row e)
+          (stays_fact row never);
+      only = λ number e. cells number ∙ ap (option_map (row_instead piece by)) e;
+    }
+
 module _ (held after : LinkedArena) (names : List NameOf) (piece : ℕ) (by : Seen) (sound : IsSound held names)
     (can : IsSomeAnd (piece_at (store_of held names) piece) (λ p. CanStandFor (store_of held names) piece p by))
     (cells : ReplacesCells (rows_seen held.arena) (rows_seen after.arena) piece by)
@@ -131,6 +208,16 @@ module _ (held after : LinkedArena) (names : List NameOf) (piece : ℕ) (by : Se
             (All-contains (λ (p : NamedPiece). p.name < length names) held.pieces ended_piece.0 sound.named
             (contains_from_at held.pieces piece ended_piece.0 ended_piece.1)) sound.named);
       }
+
+  pub terms_after : SubstitutesTerm piece by (store_of held names) (store_of after names)
+  terms_after =
+      let its = some_and (λ (p : PieceOf). CanStandFor (store_of held names) piece p by) (piece_at (store_of held names) piece) can in
+      subst (λ (ps : List (Option PieceOf)).
+      SubstitutesTerm piece by (store_of held names) (record { rows = rows_seen after.arena; pieces = ps; names = names; spare = room }))
+      (sym pieces_is)
+      (substitutes_term (rows_seen held.arena) (rows_seen after.arena) (map (piece_of names) held.pieces) names
+      (record { rows = held.arena.spare_rows; cells = held.arena.spare_cells; pieces = held.room }) room piece by sound.store its.0 its.1 its.2
+      cells)
 
   pub substitutes : Substitutes piece by (store_of held names) (store_of after names)
   substitutes = record {

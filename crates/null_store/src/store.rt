@@ -5,7 +5,7 @@ ghost use Rattle.std.specs.declared.cmp.Ordering.TheVariants.{Less};
 ghost use Rattle.term_core.specs.Order.{unknown_cmp};
 ghost use Rattle.fact_table.specs.Rows.{HasCell, cell_at};
 ghost use Rattle.null_store.specs.Store.{IsStore, IsLive, piece_at};
-ghost use Rattle.null_store.specs.Changes.{IsEmpty, HoldsSame, HasRoom, IsNamedAt, AddsOnce, KeepsAllButNames, CanFire, IsFresh, AddsFiring, CanStandFor, Substitutes, head_cells};
+ghost use Rattle.null_store.specs.Changes.{IsEmpty, HoldsSame, HasRoom, IsNamedAt, AddsOnce, KeepsAllButNames, CanFire, IsFresh, AddsFiring, CanStandFor, Substitutes, SubstitutesTerm, head_cells};
 ghost use Rattle.null_store.specs.Lists.{rows_seen, HasOccurrences, HasRowsOf};
 ghost use Rattle.null_store.specs.Facts.{KeepsFacts};
 ghost use Rattle.null_store.specs.Layout.{name_of, unknown_in};
@@ -144,6 +144,7 @@ impl NullStore {
     pub fn substitute<L: Ledger>(&mut self, piece: usize, by: Seen, steps: &mut Steps<L>)
         requires { IsSomeAnd (piece_at self.old piece) (λ p. CanStandFor self.old piece p by) }
         ensures substitutes { Substitutes piece by self.old self.new }
+        ensures terms { SubstitutesTerm piece by self.old self.new }
         ensures steps { (n : ℕ) × HasOccurrences self.old.rows piece n
             × (steps.new ≤ steps.old + 3 * n) }
     {
