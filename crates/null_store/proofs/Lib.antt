@@ -1,6 +1,8 @@
 pub mod ListLemmas
 pub mod LinkLemmas
+pub mod WalkLemmas
 pub mod ViewLemmas
+pub mod JoinLemmas
 pub mod OccurrenceLemmas
 pub mod RowLemmas
 pub mod NameLemmas
@@ -12,3 +14,4 @@ pub mod ThereLemmas
 pub mod FiringLemmas
 pub mod SoundLemmas
 pub mod LawLemmas
+pub mod SubstituteLemmas

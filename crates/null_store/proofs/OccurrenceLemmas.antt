@@ -11,12 +11,14 @@ use Rattle.row_arena.specs.declared.cell.Cell.{Cell}
 use Rattle.row_arena.specs.Arena.{RowOf, Arena, IsArena, StandsAt, row_in, cell_in}
 use Rattle.null_store.specs.declared.piece.CellList.{CellList}
 use Rattle.null_store.specs.declared.piece.ListedPiece.{ListedPiece}
-use Rattle.null_store.specs.Lists.{value_at, seen_in, rows_seen, IsLinked, IsOccurrenceList, AreListed, Place, AreOccurrences, HasOccurrences}
-use Rattle.null_store.proofs.ListLemmas.{some_and, and_some, same_some}
-use Rattle.null_store.proofs.ViewLemmas.{row_seen, value_is, cell_seen}
+use Rattle.null_store.specs.Lists.{value_at, seen_in, rows_seen, IsLinked, IsOccurrenceList, AreListed, Place, AreOccurrences, HasOccurrences, HasRowsOf}
+use Rattle.null_store.specs.Layout.{IsWalk, HasRowsBelow}
+use Rattle.null_store.proofs.ListLemmas.{some_and, and_some, same_some, map_map}
+use Rattle.null_store.proofs.JoinLemmas.{walk_of}
+use Rattle.null_store.proofs.ViewLemmas.{map_to, row_seen, value_is, cell_seen}
 
 -- what a list that is mapped has at a place
-from_map : {X Y : Type 0} (f : X → Y) (o : Option X) (y : Y) → option_map f o ≡ Some y → (x : X) × (o ≡ Some x) × (f x ≡ y)
+pub from_map : {X Y : Type 0} (f : X → Y) (o : Option X) (y : Y) → option_map f o ≡ Some y → (x : X) × (o ≡ Some x) × (f x ≡ y)
 from_map f None y e = absurd cc
 from_map {X} {Y} f (Some x) y e = let same : f x ≡ y = cc in (x, refl, same)
 
@@ -46,7 +48,7 @@ module _ (arena : Arena) (ok : IsArena (row_in arena) (cell_in arena)) (piece : 
       (omega (arith, slice_get_within r.0.cells c.column id r.2, length-map r.0.cells (value_at (cell_in arena)))) in
       cell_seen arena c.row c.column has id c (ok.placed id c e) e
 
-  seen_from : (row column : ℕ) (v : Seen) → cell_at (rows_seen arena) row column ≡ Some v
+  pub seen_from : (row column : ℕ) (v : Seen) → cell_at (rows_seen arena) row column ≡ Some v
       → (id : ℕ) × (c : Cell) × (cell_in arena id ≡ Some c) × (c.value ≡ v) × StandsAt c row column
   seen_from row column v e = by (row_in arena row) refl
       (sym (ap (option_and_then (λ (w : SeenRow). slice_get w.cells column)) (row_seen arena row)) ∙ e)
@@ -109,3 +111,20 @@ its_list arena items listed piece l =
     let ids = listed.each piece list (slice_get-get_or (map (λ (p : ListedPiece). p.list) items) piece
     (record { first = None; last = None; count = 0 }) long) in
     (ids.0, ids.2)
+
+-- the rows of the cells of a list
+pub has_rows_of : (arena : Arena) → IsArena (row_in arena) (cell_in arena) → (lists : List CellList) → AreListed (cell_in arena) lists
+    → (piece : ℕ) (list : CellList) → slice_get lists piece ≡ Some list → (rows : List ℕ)
+    → ((ids : List ℕ) → IsWalk (cell_in arena) list ids → HasRowsBelow (cell_in arena) ids list.count rows)
+    → HasRowsOf (rows_seen arena) piece rows
+has_rows_of arena ok lists listed piece list is rows told =
+    let ids = listed.each piece list is in
+    let below = told ids.0 (walk_of (cell_in arena) piece list ids.0 ids.1 ids.2) in
+    let place = place_of arena ok piece ids.0 ids.2 in
+    let row : ℕ → ℕ = λ id. (place id).row in
+    let long : length ids.0 ≡ length rows = sym (below.size ∙ ids.1.count) in
+    let same = map_to row ids.0 rows long (λ k id r a b.
+    let within = slice_get_within ids.0 k id a in
+    let c = some_and (λ (w : Cell). slice_get rows k ≡ Some w.row) (cell_in arena id) (below.each k id (omega (arith, within, ids.1.count)) a) in
+    ap (λ (p : Place). p.row) (place_is arena ok piece ids.0 ids.2 id c.0 c.1) ∙ same_some (slice_get rows k) c.0.row r c.2 b) in
+    (map place ids.0, sym (map_map (λ (p : Place). p.row) place ids.0 ∙ same), occurrences_are arena ok piece ids.0 ids.2)

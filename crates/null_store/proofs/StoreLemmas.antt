@@ -1,6 +1,6 @@
 -- What a store keeps as names, pieces and rows are added behind the others.
 use Rattle.std.proofs.Common.{◌≡◌, ◌<◌, Option, None, List, [], ◌∷◌, ◌++◌, length, map, refl, sym, ap, subst, arith, All}
-use Rattle.std.specs.Prelude.{slice_index_or}
+use Rattle.std.specs.Prelude.{if◌then◌else◌, slice_index_or}
 use Rattle.std.specs.Option.{option_map}
 use Rattle.std.proofs.lemmas.List.{length-append}
 use Rattle.std.proofs.lemmas.List.Elements.{All-head, All-tail, All-weaker}
@@ -18,7 +18,7 @@ pub pieces_stay : (names more : List NameOf) (pieces : List NamedPiece) → All 
 pieces_stay names more [] h = refl
 pieces_stay names more (p ∷ pieces) h =
     let inside = All-head (λ (q : NamedPiece). q.name < length names) p pieces h in
-    let here = ap (option_map (with_name p)) (in_front names more p.name inside) in
+    let here = ap (λ o. if p.live then option_map (with_name p) o else None) (in_front names more p.name inside) in
     let rest = pieces_stay names more pieces (All-tail (λ (q : NamedPiece). q.name < length names) p pieces h) in
     λ i. here i ∷ rest i
 

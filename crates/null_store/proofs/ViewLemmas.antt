@@ -20,7 +20,8 @@ use Rattle.null_store.specs.Lists.{value_at, seen_in, rows_seen, AreListed}
 use Rattle.null_store.specs.declared.piece.ListedPiece.{ListedPiece}
 use Rattle.null_store.specs.Layout.{LinkedArena, linked_of, IsPlain, HasPlain, AddsOne, with_cell, SetsCell, Links}
 use Rattle.std.proofs.lemmas.Bool.{cases_eq}
-use Rattle.null_store.proofs.ListLemmas.{some_and, and_some, same_some, held_at}
+use Rattle.null_store.specs.Changes.{instead, row_instead, ReplacesCells}
+use Rattle.null_store.proofs.ListLemmas.{some_and, and_some, same_some, held_at, map_map}
 use Rattle.null_store.proofs.LinkLemmas.{plain_piece, lists_stay}
 
 -- what is held at a place, in a list of places as it is mapped
@@ -33,14 +34,14 @@ pub row_seen : (arena : Arena) (n : ℕ) → row_at (rows_seen arena) n ≡ opti
 row_seen arena n = held_map (seen_in (cell_in arena)) arena.rows n
 
 -- lists that are mapped alike, or to another list, or alike but at one place
-map_same : {X Y : Type 0} (f g : X → Y) (xs : List X) → ((k : ℕ) (x : X) → slice_get xs k ≡ Some x → f x ≡ g x) → map f xs ≡ map g xs
+pub map_same : {X Y : Type 0} (f g : X → Y) (xs : List X) → ((k : ℕ) (x : X) → slice_get xs k ≡ Some x → f x ≡ g x) → map f xs ≡ map g xs
 map_same f g [] h = refl
 map_same f g (x ∷ xs) h =
     let first = h 0 x refl in
     let rest = map_same f g xs (λ k y e. h (suc k) y e) in
     λ i. first i ∷ rest i
 
-map_to : {X Y : Type 0} (f : X → Y) (xs : List X) (ys : List Y) → length xs ≡ length ys
+pub map_to : {X Y : Type 0} (f : X → Y) (xs : List X) (ys : List Y) → length xs ≡ length ys
     → ((k : ℕ) (x : X) (y : Y) → slice_get xs k ≡ Some x → slice_get ys k ≡ Some y → f x ≡ y) → map f xs ≡ ys
 map_to f [] [] l h = refl
 map_to f [] (y ∷ ys) l h = absurd (omega (arith, l))
@@ -290,3 +291,20 @@ module _ (old new : Arena) (id : ℕ) (constant : ConstId) (is : new ≡ with_co
       let both : Const constant ≡ Piece p = ap (λ (w : Cell). w.value) (same_some (cell_in new id) now c put_here
       (sym (ap (cell_in new) same) ∙ e)) ∙ v in cc)) ∙ e)
       h
+
+-- a value is written to each cell that holds a piece
+module _ (old new : Arena) (ok : IsArena (row_in old) (cell_in old)) (rows : new.rows ≡ old.rows) (piece : ℕ) (by : Seen)
+    (values : (id : ℕ) (c : Cell) → cell_in old id ≡ Some c → value_at (cell_in new) id ≡ instead piece by c.value) where
+  pub replaces_cells : ReplacesCells (rows_seen old) (rows_seen new) piece by
+  replaces_cells n = row_seen new n ∙ ap (λ (l : List (Option RowOf)). option_map (seen_in (cell_in new)) (get_or l n None)) rows
+      ∙ of_row (row_in old n) refl ∙ sym (ap (option_map (row_instead piece by)) (row_seen old n))
+    where
+      of_row : (o : Option RowOf) → row_in old n ≡ o
+          → option_map (seen_in (cell_in new)) o ≡ option_map (row_instead piece by) (option_map (seen_in (cell_in old)) o)
+      of_row None e = refl
+      of_row (Some r) e =
+          let cells = map_same (value_at (cell_in new)) (λ id. instead piece by (value_at (cell_in old) id)) r.cells (λ k id at.
+          let c = some_and (λ (c : Cell). StandsAt c n k) (cell_in old id) (ok.columns n r e k id at) in
+          values id c.0 c.1 ∙ ap (instead piece by) (sym (value_is (cell_in old) id c.0 c.1)))
+          ∙ sym (map_map (instead piece by) (value_at (cell_in old)) r.cells) in
+          λ i. Some (record { relation = r.relation; cells = cells i; span = r.span })

@@ -1,13 +1,16 @@
 -- How a store changes.
-use Rattle.std.specs.Prelude.{◌≡◌, ℕ, ◌+◌, ◌-◌, ◌≤◌, List, [], ◌∷◌, ◌++◌, All, Contains, IsPermutation, IsSomeAnd, Some, length, flat_map, slice_get}
-use Rattle.time_line.specs.Span.{Ends, Meet}
+use Rattle.std.specs.Prelude.{◌≡◌, ◌≢◌, ℤ, ◌==◌, ℕ, ◌+◌, ◌-◌, ◌≤◌, if◌then◌else◌, List, [], ◌∷◌, ◌++◌, All, Contains, IsPermutation, IsSomeAnd, Option, Some, None, ⊤, length, map, flat_map, slice_get, slice_set}
+use Rattle.std.specs.Option.{option_map}
+use Rattle.time_line.specs.Span.{Ends, Has, Meet}
+use Rattle.term_core.specs.declared.term.Seen.{Seen}
+use Rattle.term_core.specs.declared.term.Seen.TheVariants.{Const, Piece}
 use Rattle.term_core.specs.declared.const_id.ConstId.{ConstId}
 use Rattle.rule_core.specs.declared.rules.Tgd.{Tgd}
-use Rattle.rule_core.specs.Terms.{named, unknown}
+use Rattle.rule_core.specs.Terms.{named, unknown, TermOf, FactOf, StampedOf}
 use Rattle.rule_core.specs.Mapping.{RuleSet}
 use Rattle.rule_core.specs.Firing.{FiringOf, frontier_of, entry_rows}
 use Rattle.fact_table.specs.Rows.{SeenRow, row_at}
-use Rattle.null_store.specs.Store.{NameOf, Store, facts_in}
+use Rattle.null_store.specs.Store.{NameOf, PieceOf, Store, piece_at, term_in, fact_in, facts_in}
 
 -- the store of these parts with nothing in it
 abbrev pub IsEmpty : Store → Type 0
@@ -72,3 +75,52 @@ pub record AddsFiring (rules : RuleSet) (name : NameOf) (span : Ends) (old new :
   pub room : IsSomeAnd (slice_get rules.tgds name.rule) (λ tgd.
       (old.spare.rows ≤ new.spare.rows + length tgd.head) × (old.spare.cells ≤ new.spare.cells + head_cells tgd)
       × (old.spare.pieces ≤ new.spare.pieces + exists_count tgd))
+
+-- the value instead of the piece
+abbrev pub instead : ℕ → Seen → Seen → Seen
+instead piece by (Const c) = Const c
+instead piece by (Piece p) = if p == piece then by else Piece p
+
+-- the row with the value in each cell that holds the piece
+abbrev pub row_instead : ℕ → Seen → SeenRow → SeenRow
+row_instead piece by row = record { relation = row.relation; cells = map (instead piece by) row.cells; span = row.span }
+
+-- each cell that held the piece has the value, all other cells have what they had, and rows keep their numbers
+abbrev pub ReplacesCells : List (Option SeenRow) → List (Option SeenRow) → ℕ → Seen → Type 0
+ReplacesCells old new piece by = (number : ℕ) → row_at new number ≡ option_map (row_instead piece by) (row_at old number)
+
+-- the value is a constant, or another live piece over the span
+abbrev pub CanStandFor : Store → ℕ → PieceOf → Seen → Type 0
+CanStandFor store piece its (Const c) = ⊤
+CanStandFor store piece its (Piece other) = (other ≢ piece) × IsSomeAnd (piece_at store other) (λ o. o.span ≡ its.span)
+
+-- the value stands in each cell that held the piece, the piece is gone, and all else is as before
+pub record Substitutes (piece : ℕ) (by : Seen) (old new : Store) : Type 0 where
+  pub cells : ReplacesCells old.rows new.rows piece by
+  pub pieces : new.pieces ≡ slice_set old.pieces piece None
+  pub names : new.names ≡ old.names
+  pub spare : new.spare ≡ old.spare
+
+-- the unknown becomes the other term, and each other term stays
+pub record BecomesTerm (unknown other old new : TermOf ConstId) : Type 0 where
+  pub its : old ≡ unknown → new ≡ other
+  pub rest : ¬ (old ≡ unknown) → new ≡ old
+
+-- in the fact the unknown becomes the other term, and all else stays
+pub record BecomesFact (unknown other : TermOf ConstId) (old new : StampedOf (FactOf ConstId)) : Type 0 where
+  pub relation : new.row.relation ≡ old.row.relation
+  pub arity : length new.row.terms ≡ length old.row.terms
+  pub terms : (column : ℕ) (term later : TermOf ConstId) → slice_get old.row.terms column ≡ Some term
+      → slice_get new.row.terms column ≡ Some later → BecomesTerm unknown other term later
+  pub span : new.span ≡ old.span
+
+-- at the instants of the piece its unknown becomes the other term in each row, and a row that does not hold the piece stays at all
+-- instants; rows keep their numbers, and there is no other
+pub record SubstitutesTerm (piece : ℕ) (by : Seen) (old new : Store) : Type 0 where
+  pub within : (t : ℤ) → IsSomeAnd (piece_at old piece) (λ p. Has p.span t) → (number : ℕ) (row : SeenRow)
+      → row_at old.rows number ≡ Some row → Has row.span t
+      → IsSomeAnd (row_at new.rows number)
+      (λ later. BecomesFact (term_in old (Piece piece)) (term_in old by) (fact_in old row) (fact_in new later))
+  pub others : (number : ℕ) (row : SeenRow) → row_at old.rows number ≡ Some row → ¬ (Contains row.cells (Piece piece))
+      → IsSomeAnd (row_at new.rows number) (λ later. fact_in new later ≡ fact_in old row)
+  pub only : (number : ℕ) → row_at old.rows number ≡ None → row_at new.rows number ≡ None

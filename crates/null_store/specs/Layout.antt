@@ -1,6 +1,6 @@
 -- How a `NullStore` lays out its rows, pieces and names. No public clause cites this module.
-use Rattle.std.specs.Prelude.{◌≡◌, ◌≢◌, ℕ, ◌+◌, ◌-◌, ◌<◌, ◌≤◌, List, [], ◌++◌, Option, Some, None, IsSomeAnd, IsPermutation, All, ⊤, length, map, filter_map, slice_get, slice_set, slice_index_or}
-use Rattle.std.specs.Option.{option_map}
+use Rattle.std.specs.Prelude.{◌≡◌, ◌≢◌, ℕ, ◌+◌, ◌-◌, ◌<◌, ◌≤◌, List, [], ◌++◌, Option, Some, None, true, false, if◌then◌else◌, IsSomeAnd, IsPermutation, All, ⊤, length, map, filter_map, slice_get, slice_set, slice_index_or}
+use Rattle.std.specs.Option.{option_map, option_or}
 use Rattle.time_line.specs.Span.{Ends}
 use Rattle.term_core.specs.declared.const_id.ConstId.{ConstId}
 use Rattle.term_core.specs.declared.term.Unknown.{Unknown as HeldUnknown}
@@ -15,6 +15,7 @@ use Rattle.rule_core.specs.Validity.{IsWithin}
 use Rattle.rule_core.specs.Firing.{frontier_of, frontier_value}
 use Rattle.fact_table.specs.Rows.{SeenRow, row_at}
 use Rattle.row_arena.specs.declared.held.TheConstants.{MOST_COLUMNS}
+use Rattle.row_arena.specs.declared.cell.Cell.{Cell}
 use Rattle.row_arena.specs.Arena.{Arena, HasCell, cell_in}
 use Rattle.null_store.specs.declared.names.Name.{Name}
 use Rattle.null_store.specs.declared.piece.NamedPiece.{NamedPiece}
@@ -110,9 +111,64 @@ unknown_in name var = record { rule = name.rule; frontier = name.frontier; var =
 abbrev pub with_name : NamedPiece → NameOf → PieceOf
 with_name piece name = record { unknown = unknown_in name piece.var; span = piece.span }
 
--- a piece as callers see it, where its name has a number
+-- a piece as callers see it, where it has not ended and its name has a number
 abbrev pub piece_of : List NameOf → NamedPiece → Option PieceOf
-piece_of names piece = option_map (with_name piece) (slice_get names piece.name)
+piece_of names piece = if piece.live then option_map (with_name piece) (slice_get names piece.name) else None
+
+-- the piece when it has ended
+abbrev pub ended : NamedPiece → NamedPiece
+ended piece = record { name = piece.name; var = piece.var; span = piece.span; live = false }
+
+-- the piece has ended, and the others are as before
+abbrev pub EndsPiece : List NamedPiece → List NamedPiece → ℕ → Type 0
+EndsPiece old new piece = IsSomeAnd (slice_get old piece) (λ p. new ≡ slice_set old piece (ended p))
+
+-- the list of no cell
+abbrev pub no_cell : CellList
+no_cell = record { first = None; last = None; count = 0 }
+
+-- the last cell, if there is one, leads to the next, and all else is as before
+pub record Leads (old new : Arena) (last next : Option ℕ) : Type 0 where
+  pub rows : new.rows ≡ old.rows
+  pub spare_rows : new.spare_rows ≡ old.spare_rows
+  pub spare_cells : new.spare_cells ≡ old.spare_cells
+  pub end : (id : ℕ) → last ≡ Some id → cell_in new id
+      ≡ option_map (λ c. record { row = c.row; column = c.column; value = c.value; before = c.before; after = next }) (cell_in old id)
+  pub others : (id : ℕ) → last ≢ Some id → cell_in new id ≡ cell_in old id
+
+-- the value is a constant, or another of the first n pieces
+abbrev pub IsOther : ℕ → ℕ → Seen → Type 0
+IsOther n piece (Const c) = ⊤
+IsOther n piece (Piece other) = (other < n) × (other ≢ piece)
+
+-- the cell with this value, which stands behind the last one, if there is one, where none stands before it
+abbrev pub with_value : Seen → Option ℕ → Cell → Cell
+with_value (Const c) last cell = record { row = cell.row; column = cell.column; value = Const c; before = None; after = None }
+with_value (Piece p) last cell =
+    record { row = cell.row; column = cell.column; value = Piece p; before = option_or cell.before last; after = cell.after }
+
+-- the numbers are those of a list of cells, in which each leads to the next, and none comes twice
+pub record IsWalk (cell : ℕ → Option Cell) (list : CellList) (ids : List ℕ) : Type 0 where
+  pub first : list.first ≡ slice_get ids 0
+  pub count : list.count ≡ length ids
+  pub leads : (k id : ℕ) → slice_get ids k ≡ Some id → IsSomeAnd (cell id) (λ c. c.after ≡ slice_get ids (k + 1))
+  pub once : (j k id : ℕ) → slice_get ids j ≡ Some id → slice_get ids k ≡ Some id → j ≡ k
+
+-- each of the first n cells has its row at the same place
+pub record HasRowsBelow (cell : ℕ → Option Cell) (ids : List ℕ) (n : ℕ) (rows : List ℕ) : Type 0 where
+  pub size : length rows ≡ n
+  pub each : (k id : ℕ) → k < n → slice_get ids k ≡ Some id → IsSomeAnd (cell id) (λ c. slice_get rows k ≡ Some c.row)
+
+-- the first n cells have the value, and all others are as before
+pub record IsRewritten (old new : ℕ → Option Cell) (ids : List ℕ) (n : ℕ) (by : Seen) (last : Option ℕ) : Type 0 where
+  pub within : (k id : ℕ) → k < n → slice_get ids k ≡ Some id → new id ≡ option_map (with_value by last) (old id)
+  pub others : (id : ℕ) → ((k : ℕ) → k < n → slice_get ids k ≢ Some id) → new id ≡ old id
+
+-- all but what cells hold is as before
+pub record KeepsRows (old new : Arena) : Type 0 where
+  pub rows : new.rows ≡ old.rows
+  pub spare_rows : new.spare_rows ≡ old.spare_rows
+  pub spare_cells : new.spare_cells ≡ old.spare_cells
 
 -- a store from its parts
 abbrev pub store_of : LinkedArena → List NameOf → Store
@@ -152,7 +208,7 @@ HasFrontierValues tgd frontier values = HasValuesBelow tgd frontier tgd.body_var
 
 -- the piece for an `exists` variable
 abbrev pub piece_for : Tgd → ℕ → Ends → ℕ → NamedPiece
-piece_for tgd name span v = record { name = name; var = v - tgd.body_vars; span = span }
+piece_for tgd name span v = record { name = name; var = v - tgd.body_vars; span = span; live = true }
 
 -- the variable is an `exists` variable that the head has, and its piece is this one of the new pieces
 pub record IsPieceOf (tgd : Tgd) (name : ℕ) (span : Ends) (first : ℕ) (more : List NamedPiece) (values : List Seen) (v k : ℕ) : Type 0 where

@@ -1,4 +1,5 @@
 pub mod Store
 pub mod Changes
 pub mod Lists
+pub mod Facts
 pub mod Layout

@@ -64,3 +64,7 @@ pub record AreOccurrences (rows : List (Option SeenRow)) (piece : ℕ) (places :
 -- so many cells hold the piece
 abbrev pub HasOccurrences : List (Option SeenRow) → ℕ → ℕ → Type 0
 HasOccurrences rows piece n = (places : List Place) × (length places ≡ n) × AreOccurrences rows piece places
+
+-- the rows of the cells that hold the piece, each as often as its cells hold it
+abbrev pub HasRowsOf : List (Option SeenRow) → ℕ → List ℕ → Type 0
+HasRowsOf rows piece numbers = (places : List Place) × (numbers ≡ map (λ place. place.row) places) × AreOccurrences rows piece places

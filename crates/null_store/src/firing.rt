@@ -88,6 +88,7 @@ fn add_pieces(
                 name,
                 var: variable - tgd.body_vars,
                 span,
+                live: true,
             });
         }
     }

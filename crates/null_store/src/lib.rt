@@ -4,6 +4,7 @@
 
 mod firing;
 pub mod laws;
+mod lists;
 mod names;
 mod piece;
 mod rows;

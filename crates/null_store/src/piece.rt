@@ -12,6 +12,8 @@ pub struct NamedPiece {
     pub var: u32,
     /// The span.
     pub span: Span,
+    /// Whether the piece has not ended.
+    pub live: bool,
 }
 
 /// The list of the cells that hold a piece.

@@ -1,20 +1,22 @@
 //! Rows over an arena, in which the cells that hold a piece are linked.
 
-ghost use Rattle.std.specs.Prelude.{◌≡◌, ℕ, List, ◌+◌, ◌<◌, ◌≤◌, [], ◌∷◌, ◌++◌, Some, All, OnOk, length, slice_get};
+ghost use Rattle.std.specs.Prelude.{◌≡◌, ◌≢◌, ℕ, List, ◌+◌, ◌*◌, ◌<◌, ◌≤◌, [], ◌∷◌, ◌++◌, Some, All, IfOk, OnOk, length, slice_get};
 ghost use Rattle.term_core.specs.declared.term.Seen.TheVariants.{Piece, Const};
 ghost use Rattle.fact_table.specs.Rows.{HasCell, head_at, cell_at};
 ghost use Rattle.row_arena.specs.declared.held.TheConstants.{MOST_COLUMNS};
-ghost use Rattle.null_store.specs.Lists.{rows_seen, IsOccurrenceList, HasOccurrences};
-ghost use Rattle.row_arena.specs.Arena.{cell_in};
-ghost use Rattle.null_store.specs.Layout.{HoldsNothing, HasSame, IsPlain, HasPlain, AddsOne, SetsCell, HasSameRoom, CanLink, Links};
+ghost use Rattle.null_store.specs.Changes.{ReplacesCells};
+ghost use Rattle.null_store.specs.Lists.{rows_seen, IsOccurrenceList, HasOccurrences, HasRowsOf};
+ghost use Rattle.row_arena.specs.Arena.{HasCell as HasCellNumber, cell_in};
+ghost use Rattle.null_store.specs.Layout.{HoldsNothing, HasSame, IsPlain, HasPlain, AddsOne, SetsCell, HasSameRoom, CanLink, Links, Leads, IsOther, EndsPiece, ended, no_cell};
 
+use crate::lists::{rewrite, rows_of};
 use crate::piece::{CellList, ListedPiece, NamedPiece};
 use fact_table::RowHead;
 use row_arena::RowArena;
 use std::alloc::Global;
 use std::marker::Model;
 use std::sync::ledger::Ledger;
-use term_core::{ConstId, Memory, Seen, Steps};
+use term_core::{ConstId, Items, Memory, Seen, Steps};
 use time_line::Span;
 
 /// Rows and pieces, and for each piece the list of the cells that hold it.
@@ -77,6 +79,99 @@ impl LinkedRows {
     {
         self.arena.is_kept();
         self.pieces[piece].list.count
+    }
+
+    /// The row of each cell that holds a piece, in the order of the piece's list. It takes a step
+    /// a cell.
+    pub fn occurrence_rows<L: Ledger>(
+        &self,
+        alloc: Global,
+        piece: usize,
+        steps: &mut Steps<L>,
+    ) -> Result<Items<usize>, Memory>
+        requires { piece < length self.now.pieces }
+        ensures rows { IfOk result (λ rows. HasRowsOf (rows_seen self.now.arena) piece rows) }
+        ensures steps { IfOk result (λ rows. steps.new ≡ steps.old + length rows) }
+    {
+        self.arena.is_kept();
+        rows_of(alloc, &self.arena, self.pieces[piece].list, steps)
+    }
+
+    /// Writes a constant, or another piece, to each cell that holds a piece, which ends. It takes
+    /// at most a step, and two a cell.
+    pub fn substitute<L: Ledger>(&mut self, piece: usize, by: Seen, steps: &mut Steps<L>)
+        requires piece { piece < length self.old.pieces }
+        requires other { IsOther (length self.old.pieces) piece by }
+        ensures cells { ReplacesCells (rows_seen self.old.arena) (rows_seen self.new.arena) piece
+            by }
+        ensures pieces { EndsPiece self.old.pieces self.new.pieces piece }
+        ensures room { HasSameRoom self.old self.new }
+        ensures steps { (n : ℕ) × HasOccurrences (rows_seen self.old.arena) piece n
+            × (steps.new ≤ steps.old + 1 + 2 * n) }
+    {
+        match by {
+            Seen::Const(constant) => self.fix(piece, constant, steps),
+            Seen::Piece(other) => self.join(piece, other, steps),
+        }
+    }
+
+    // Writes a constant to each cell that holds a piece, which ends.
+    fn fix<L: Ledger>(&mut self, piece: usize, constant: ConstId, steps: &mut Steps<L>)
+        requires { piece < length self.old.pieces }
+        ensures cells { ReplacesCells (rows_seen self.old.arena) (rows_seen self.new.arena) piece
+            (Const constant) }
+        ensures pieces { EndsPiece self.old.pieces self.new.pieces piece }
+        ensures room { HasSameRoom self.old self.new }
+        ensures steps { (n : ℕ) × HasOccurrences (rows_seen self.old.arena) piece n
+            × (steps.new ≤ steps.old + 1 + 2 * n) }
+    {
+        self.arena.is_kept();
+        let listed = self.pieces[piece];
+        rewrite(
+            &mut self.arena,
+            listed.list,
+            Seen::Const(constant),
+            None,
+            steps,
+        );
+        self.pieces[piece] = end(listed.named);
+    }
+
+    // Writes another piece to each cell that holds a piece, which ends. The cells stand behind
+    // those of the other piece.
+    fn join<L: Ledger>(&mut self, piece: usize, other: usize, steps: &mut Steps<L>)
+        requires piece { piece < length self.old.pieces }
+        requires other { other < length self.old.pieces }
+        requires differ { other ≢ piece }
+        ensures cells { ReplacesCells (rows_seen self.old.arena) (rows_seen self.new.arena) piece
+            (Piece other) }
+        ensures pieces { EndsPiece self.old.pieces self.new.pieces piece }
+        ensures room { HasSameRoom self.old self.new }
+        ensures steps { (n : ℕ) × HasOccurrences (rows_seen self.old.arena) piece n
+            × (steps.new ≤ steps.old + 1 + 2 * n) }
+    {
+        self.arena.is_kept();
+        let _bound = self.arena.cell_bound();
+        let listed = self.pieces[piece];
+        let front = self.pieces[other];
+        let list = CellList {
+            first: front.list.first.or(listed.list.first),
+            last: listed.list.last.or(front.list.last),
+            count: front.list.count + listed.list.count,
+        };
+        lead(&mut self.arena, front.list.last, listed.list.first, steps);
+        rewrite(
+            &mut self.arena,
+            listed.list,
+            Seen::Piece(other),
+            front.list.last,
+            steps,
+        );
+        self.pieces[other] = ListedPiece {
+            named: front.named,
+            list,
+        };
+        self.pieces[piece] = end(listed.named);
     }
 
     /// How many pieces there are.
@@ -221,4 +316,40 @@ fn link<L: Ledger>(
         arena.link_after(last, Some(id), steps);
     }
     arena.put_cell(id, Seen::Piece(piece), last, None, steps);
+}
+
+// Lets the last cell of a list, if there is one, lead to another cell.
+fn lead<L: Ledger>(
+    arena: &mut RowArena,
+    last: Option<usize>,
+    next: Option<usize>,
+    steps: &mut Steps<L>,
+)
+    requires { (id : ℕ) → last ≡ Some id → HasCellNumber arena.old id }
+    ensures leads { Leads arena.old arena.new last next }
+    ensures steps { steps.new ≤ steps.old + 1 }
+{
+    if let Some(last) = last {
+        arena.link_after(last, next, steps);
+    }
+}
+
+// The piece when it has ended, which no cell holds.
+fn end(named: NamedPiece) -> ListedPiece
+    ensures named { result.named ≡ ended named }
+    ensures list { result.list ≡ no_cell }
+{
+    ListedPiece {
+        named: NamedPiece {
+            name: named.name,
+            var: named.var,
+            span: named.span,
+            live: false,
+        },
+        list: CellList {
+            first: None,
+            last: None,
+            count: 0,
+        },
+    }
 }

@@ -1,13 +1,13 @@
 //! A store of rows over constants and pieces of unknowns.
 
-ghost use Rattle.std.specs.Prelude.{◌≡◌, ◌↔◌, ℕ, List, ◌+◌, ◌*◌, ◌≤◌, Some, IsTrue, IsSomeAnd, IfOk, OnOk, OnErr, slice_get};
+ghost use Rattle.std.specs.Prelude.{◌≡◌, ◌↔◌, ℕ, ◌+◌, ◌*◌, ◌≤◌, Some, IsTrue, IsSomeAnd, IfOk, OnOk, OnErr, length, slice_get};
 ghost use Rattle.std.specs.declared.cmp.Ordering.TheVariants.{Less};
 ghost use Rattle.term_core.specs.Order.{unknown_cmp};
 ghost use Rattle.fact_table.specs.Rows.{HasCell, cell_at};
 ghost use Rattle.null_store.specs.Store.{IsStore, IsLive, piece_at};
-ghost use Rattle.null_store.specs.Changes.{IsEmpty, HoldsSame, HasRoom, IsNamedAt, AddsOnce, KeepsAllButNames, CanFire, IsFresh, AddsFiring, head_cells};
-ghost use Rattle.row_arena.specs.Arena.{cell_in};
-ghost use Rattle.null_store.specs.Lists.{rows_seen, IsOccurrenceList, HasOccurrences};
+ghost use Rattle.null_store.specs.Changes.{IsEmpty, HoldsSame, HasRoom, IsNamedAt, AddsOnce, KeepsAllButNames, CanFire, IsFresh, AddsFiring, CanStandFor, Substitutes, SubstitutesTerm, head_cells};
+ghost use Rattle.null_store.specs.Lists.{rows_seen, HasOccurrences, HasRowsOf};
+ghost use Rattle.null_store.specs.Facts.{KeepsFacts};
 ghost use Rattle.null_store.specs.Layout.{name_of, unknown_in};
 
 use crate::firing::fire;
@@ -110,10 +110,11 @@ impl NullStore {
     /// before and after it in the list of the cells that hold the piece.
     pub fn arena(&self) -> &RowArena
         ensures rows { rows_seen result.now ≡ self.now.rows }
-        ensures lists { (piece : ℕ) → IsLive self.now piece
-            → (ids : List ℕ) × IsOccurrenceList (cell_in result.now) piece ids }
+        ensures facts { KeepsFacts result.now self.now }
     {
-        self.rows.arena()
+        let arena = self.rows.arena();
+        arena.is_kept();
+        arena
     }
 
     /// How many cells hold a live piece.
@@ -122,6 +123,32 @@ impl NullStore {
         ensures { HasOccurrences self.now.rows piece result }
     {
         self.rows.occurrences(piece)
+    }
+
+    /// The row of each cell that holds a live piece, in the order of the piece's list. It takes a
+    /// step a cell.
+    pub fn occurrence_rows<L: Ledger>(
+        &self,
+        piece: usize,
+        steps: &mut Steps<L>,
+    ) -> Result<Items<usize>, Memory>
+        requires { IsLive self.now piece }
+        ensures rows { IfOk result (λ rows. HasRowsOf self.now.rows piece rows) }
+        ensures steps { IfOk result (λ rows. steps.new ≡ steps.old + length rows) }
+    {
+        self.rows.occurrence_rows(self.alloc, piece, steps)
+    }
+
+    /// Writes a constant, or another live piece over the same span, to each cell that holds a live
+    /// piece, which ends. It walks the piece's list and takes no memory.
+    pub fn substitute<L: Ledger>(&mut self, piece: usize, by: Seen, steps: &mut Steps<L>)
+        requires { IsSomeAnd (piece_at self.old piece) (λ p. CanStandFor self.old piece p by) }
+        ensures substitutes { Substitutes piece by self.old self.new }
+        ensures terms { SubstitutesTerm piece by self.old self.new }
+        ensures steps { (n : ℕ) × HasOccurrences self.old.rows piece n
+            × (steps.new ≤ steps.old + 3 * n) }
+    {
+        self.rows.substitute(piece, by, steps);
     }
 
     /// The unknown of a live piece.
