@@ -15,3 +15,5 @@ pub mod PlanLemmas
 pub mod RegisterLemmas
 pub mod IndexLemmas
 pub mod UnequalLemmas
+pub mod UsingLemmas
+pub mod OrderLemmas

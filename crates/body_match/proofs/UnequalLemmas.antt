@@ -9,13 +9,13 @@ use Rattle.body_match.specs.declared.plan.Plan.{Plan}
 use Rattle.body_match.specs.declared.unequal.Unequal.{Unequal}
 use Rattle.body_match.specs.Matches.{IsMatch, IsImageAt, seen_value}
 use Rattle.body_match.specs.Visits.{TakesInTurn}
-use Rattle.body_match.specs.Search.{Gives, BeginsWith}
+use Rattle.body_match.specs.Search.{Gives}
 use Rattle.body_match.specs.Unequal.{Differ, Meets}
 use Rattle.body_match.specs.Index.{Index, IsUnequal}
 use Rattle.body_match.specs.Plans.{IsPlan, IsIndex, IsPutBack, HasNone, HaveNone}
 use Rattle.body_match.proofs.ListLemmas.{at_within, within_from_at, at_from_contains, zip_length}
 use Rattle.body_match.proofs.SearchLemmas.{same_some}
-use Rattle.body_match.proofs.PlanLemmas.{at_ordered, ordered_size, in_back, match_back, match_in_order}
+use Rattle.body_match.proofs.UsingLemmas.{match_of_plan, uses_row, found_in_plan}
 
 -- what is found in a list of matches that are met in turn
 abbrev pub Finds : List Match → ℕ → ℕ → Option Match → Option Match → Type 0
@@ -95,37 +95,20 @@ none_weaker P Q f (Some x) h = tt
 -- over one plan
 module _ (index : Index) (rows : List (Option SeenRow)) (row left right : ℕ) (first : ℕ) (plan : Plan)
     (ok : IsPlan index.body index.vars first plan) where
-  abbrev order : List ℕ
-  order = plan.order.items
-
   -- a match that is put back is one of the body
   pub unequal_from_put_back : (found : Match) → IsPutBack plan rows row left right found → IsUnequal index rows row left right found
-  unequal_from_put_back found h =
-      let whole : IsMatch plan.body index.vars rows h.ordered = subst (λ n. IsMatch plan.body n rows h.ordered) ok.places.size h.listed.0 in
-      let begins : h.ordered.rows ≡ row ∷ h.listed.1.0 = h.listed.1.1 in
-      let there : Contains h.ordered.rows row = subst (λ l. Contains l row) (sym begins) (Contains-head row h.listed.1.0) in
-      record {
-        match = match_back index.body index.vars rows order ok.order.moved plan.body ok.atoms h.ordered found whole h.back.size h.back.rows h.back.binding h.back.span;
-        uses = in_back index.body index.vars rows order ok.order.moved plan.body ok.atoms found.rows h.ordered.rows h.back.size h.back.rows row there;
-        unequal = subst (λ values. slice_get values left ≡ slice_get values right → ⊥) (sym h.back.binding) h.differ;
-      }
+  unequal_from_put_back found h = record {
+    match = match_of_plan index rows row first plan ok h.ordered found h.listed h.back;
+    uses = uses_row index rows row first plan ok h.ordered found h.listed h.back;
+    unequal = subst (λ values. slice_get values left ≡ slice_get values right → ⊥) (sym h.back.binding) h.differ;
+  }
 
   -- and one of the body in which the row stands at the plan's first atom is one of the plan
   pub none_at : HasNone plan rows row left right → (m : Match) → IsMatch index.body index.vars rows m → slice_get m.rows first ≡ Some row
       → ¬ (Differ left right m)
   none_at none m whole at differ =
-      let h = match_in_order index.body index.vars rows order ok.order.moved plan.body ok.atoms m whole in
-      let found = h.0 in
-      let sizes = ordered_size m.rows order found.rows h.2 in
-      let head = at_within found.rows 0 (let l = within_from_at order 0 first ok.order.first in omega (arith, l, sizes)) in
-      let is : head.0 ≡ row = same_some (slice_get m.rows first) head.0 row
-      (at_ordered m.rows order found.rows h.2 0 first head.0 ok.order.first head.1) at in
-      none found (subst (λ n. IsMatch plan.body n rows found) (sym ok.places.size) h.1, begins found.rows (head.1 ∙ ap (λ x. Some x) is))
-      (subst (λ values. slice_get values left ≡ slice_get values right → ⊥) (sym h.3) differ)
-    where
-      begins : (xs : List ℕ) → slice_get xs 0 ≡ Some row → BeginsWith (row ∷ []) xs
-      begins [] e = absurd cc
-      begins (x ∷ xs) e = let same : x ≡ row = cc in (xs, λ i. same i ∷ xs)
+      let found = found_in_plan index rows row first plan ok m whole at in
+      none found.0 found.1 (subst (λ values. slice_get values left ≡ slice_get values right → ⊥) (sym found.3) differ)
 
 -- over all plans
 module _ (index : Index) (ok : IsIndex index) (rows : List (Option SeenRow)) (row left right : ℕ) where

@@ -9,3 +9,4 @@ pub mod Listings
 pub mod Index
 pub mod Plans
 pub mod Unequal
+pub mod Using

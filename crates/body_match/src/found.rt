@@ -3,8 +3,8 @@
 use term_core::{Items, Seen};
 use time_line::Span;
 
-/// A match of a body.
-#[derive(Debug, PartialEq, Eq, Drop)]
+/// A match of a body. Matches stand in order of their rows, from left to right.
+#[derive(Debug, PartialEq, Eq, PartialOrd, Ord, Drop)]
 pub struct Match {
     /// The number of a row for each atom.
     pub rows: Items<usize>,

@@ -2,20 +2,21 @@
 //! other atoms look up where a row stands at this one. A row that came or changed is listed anew; what was listed before may stay,
 //! since each row is looked at again where it is found.
 
-ghost use Rattle.std.specs.Prelude.{◌≡◌, ◌↔◌, ◌<◌, ◌≤◌, ◌∷◌, [], ℕ, Contains, IsPermutation, Some, slice_get, length, IfOk, OnOk, IfSome, IfNone};
+ghost use Rattle.std.specs.Prelude.{◌≡◌, ◌↔◌, ◌<◌, ◌≤◌, ◌∷◌, [], ℕ, AllPairs, Contains, Some, slice_get, length, IfOk, OnOk, IfSome, IfNone};
 ghost use Rattle.rule_core.specs.Validity.{occurrences};
 ghost use Rattle.body_match.specs.declared.found.Match.{Match};
 ghost use Rattle.body_match.specs.Index.{Grows, Lists, ListsRow, IsUnequal};
-ghost use Rattle.std.specs.List.{range_with_len};
+ghost use Rattle.body_match.specs.Matches.{IsMatch, StandsBefore};
 ghost use Rattle.body_match.specs.Search.{IsListedFrom};
 ghost use Rattle.body_match.specs.Unequal.{Differ};
 ghost use Rattle.body_match.specs.declared.plan.Plan.{Plan};
-ghost use Rattle.body_match.specs.Plans.{IsBack, ArePlans, CanSearch, HasNone, HaveNone, IsIndex, IsPutBack};
+ghost use Rattle.body_match.specs.Plans.{ArePlans, CanSearch, HasNone, HaveNone, IsIndex, IsPutBack};
 
 use crate::Match;
-use crate::plan::{Plan, list_plans, put_back};
+use crate::plan::{Plan, list_plans};
 use crate::search::{Search, visit_from};
 use crate::unequal::Unequal;
+use crate::using::{match_back, matches_in};
 use fact_table::FactSource;
 use rule_core::Atom;
 use std::alloc::Global;
@@ -79,6 +80,21 @@ impl BodyIndex {
         list_plans(self.alloc, &mut self.plans, source, row, steps)
     }
 
+    /// The matches that use the row, in order of their rows.
+    pub fn matches_using<F: FactSource, L: Ledger>(
+        &self,
+        source: &F,
+        row: usize,
+        steps: &mut Steps<L>,
+    ) -> Result<Items<Match>, Memory>
+        requires lists { Lists self.now (F.rows source.now) }
+        ensures each { IfOk result (λ list. (found : Match) → Contains list found
+            ↔ (IsMatch self.now.body self.now.vars (F.rows source.now) found × Contains found.rows row)) }
+        ensures order { IfOk result (AllPairs StandsBefore) }
+    {
+        matches_in(self.alloc, self.plans(), source, row, steps)
+    }
+
     /// Some match that uses the row and gives the two variables different values, or none exactly where there is none.
     pub fn unequal_match<F: FactSource, L: Ledger>(
         &self,
@@ -105,8 +121,8 @@ impl BodyIndex {
     }
 }
 
-// A plan for each atom.
-fn plans_of<F: FactSource, L: Ledger>(
+/// A plan for each atom.
+pub fn plans_of<F: FactSource, L: Ledger>(
     alloc: Global,
     body: &Items<Atom>,
     vars: u32,
@@ -195,18 +211,4 @@ fn first_unequal<F: FactSource, L: Ledger>(
     };
     visit_from(alloc, search, row, &mut unequal, steps)?;
     Ok(unequal.found)
-}
-
-// A match with its rows put back from an order.
-fn match_back(alloc: Global, order: &[usize], found: Match) -> Result<Match, Memory>
-    requires order { IsPermutation (range_with_len 0 (length order.now)) order.now }
-    requires size { length found.rows ≡ length order.now }
-    ensures { IfOk result (IsBack order.now found) }
-{
-    let rows = put_back(alloc, order, found.rows.as_slice())?;
-    Ok(Match {
-        rows,
-        binding: found.binding,
-        span: found.span,
-    })
 }

@@ -16,6 +16,7 @@ mod plan;
 mod register;
 mod search;
 mod unequal;
+mod using;
 mod visit;
 
 pub use found::Match;

@@ -1,12 +1,13 @@
 //! The lists of matches.
 
-ghost use Rattle.std.specs.Prelude.{◌≡◌, ◌↔◌, ◌<◌, ◌≤◌, ◌++◌, ◌∷◌, [], ℕ, AllPairs, Contains, length, IsTrue, IfOk};
+ghost use Rattle.std.specs.Prelude.{◌≡◌, ◌↔◌, ◌<◌, ◌≤◌, ◌++◌, ◌∷◌, [], ℕ, AllPairs, Contains, length, IfOk};
 ghost use Rattle.rule_core.specs.Validity.{occurrences};
 ghost use Rattle.body_match.specs.declared.found.Match.{Match};
 ghost use Rattle.body_match.specs.Matches.{IsMatch, StandsBefore};
 ghost use Rattle.body_match.specs.Snapshots.{AreMatchesAtInstants};
-ghost use Rattle.body_match.specs.Listings.{Use};
 
+use crate::index::plans_of;
+use crate::using::matches_in;
 use crate::visit::visit_matches;
 use crate::{Match, Visitor};
 use fact_table::FactSource;
@@ -32,7 +33,6 @@ pub fn matches<F: FactSource, L: Ledger>(
 {
     let mut list = Listing {
         alloc,
-        row: None,
         list: Vec::new(alloc),
     };
     visit_matches(alloc, body, vars, source, &mut list, steps)?;
@@ -54,33 +54,15 @@ pub fn matches_with<F: FactSource, L: Ledger>(
         ↔ (IsMatch body.now vars (F.rows source.now) found × Contains found.rows row)) }
     ensures order { IfOk result (AllPairs StandsBefore) }
 {
-    let mut list = Listing {
-        alloc,
-        row: Some(row),
-        list: Vec::new(alloc),
-    };
-    visit_matches(alloc, body, vars, source, &mut list, steps)?;
-    Ok(Items::from_vec(list.list))
+    let plans = plans_of(alloc, body, vars, source, steps)?;
+    matches_in(alloc, plans.as_slice(), source, row, steps)
 }
 
-// A list of the matches so far, or of those that use a row.
+/// A list of the matches so far.
 #[derive(Drop)]
-struct Listing {
-    alloc: Global,
-    row: Option<usize>,
-    list: Vec<Match>,
-}
-
-impl Listing {
-    // Whether a match uses the row that is wanted, if one is.
-    fn wants(&self, found: &Match) -> bool
-        ensures { IsTrue result ↔ Use self.now.row found.now.rows }
-    {
-        match self.row {
-            Some(row) => found.rows.as_slice().contains(&row),
-            None => true,
-        }
-    }
+pub struct Listing {
+    pub alloc: Global,
+    pub list: Vec<Match>,
 }
 
 impl Visitor for Listing {
@@ -91,10 +73,7 @@ impl Visitor for Listing {
     ghost stops = { λ _. ⊥ };
 
     fn visit(&mut self, found: &Match) -> Result<bool, Memory> {
-        if self.wants(found) {
-            let copy = copy_of(self.alloc, found)?;
-            self.list.push(copy)?;
-        }
+        self.list.push(copy_of(self.alloc, found)?)?;
         Ok(true)
     }
 }
