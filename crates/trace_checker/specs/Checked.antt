@@ -1,29 +1,22 @@
 -- What a checker is given, at the level of texts, and what its verdict says of a trace.
-use Rattle.std.specs.Prelude.{◌≡◌, ℕ, ◌<◌, List, [], length, map, slice_index_or, All, ⊤}
+use Rattle.std.specs.Prelude.{◌≡◌, ℕ, ◌<◌, List, length, All, ⊤}
 use Rattle.term_core.specs.declared.const_id.ConstId.{ConstId}
 use Rattle.rule_core.specs.Terms.{constant, FactOf, StampedOf}
 use Rattle.rule_core.specs.Mapping.{RuleSet}
 use Rattle.rule_core.specs.Snapshot.{snapshot_at}
 use Rattle.rule_core.specs.Solution.{IsSolvable}
-use Rattle.rule_core.specs.Renaming.{renamed_fact, IsRuleConstant}
+use Rattle.rule_core.specs.Renaming.{renamed_stamped, IsRuleConstant}
 use Rattle.fact_table.specs.declared.fact.Fact.{Fact}
-use Rattle.fact_table.specs.Snapshots.{with_terms}
+use Rattle.fact_table.specs.Snapshots.{stamped_facts}
 use Rattle.failure_trace.specs.declared.trace.Trace.{Trace}
+use Rattle.failure_trace.specs.Projected.{pool_text}
 use Rattle.failure_trace.specs.TraceRun.{IsAccepted, IsRefused}
 use Rattle.trace_checker.specs.declared.verdict.Verdict.{Verdict}
 use Rattle.trace_checker.specs.declared.verdict.Verdict.TheVariants.{Accepted, Refused}
 
--- the text at a constant's place in a pool; behind the last an empty one
-abbrev pub text_in : List (List ℕ) → ConstId → List ℕ
-text_in pool id = slice_index_or pool id.0 []
-
--- a fact over its span, with the texts of its constants
-abbrev pub as_text : List (List ℕ) → Fact → StampedOf (FactOf (List ℕ))
-as_text pool fact = record { row = renamed_fact (text_in pool) (with_terms fact).row; span = fact.span }
-
--- the facts of a table, with the texts of their constants
+-- the facts of a table over their spans, with the texts of their constants
 abbrev pub source_of : List (List ℕ) → List Fact → List (StampedOf (FactOf (List ℕ)))
-source_of pool table = map (as_text pool) table
+source_of pool table = renamed_stamped (pool_text pool) (stamped_facts table)
 
 -- the pool has each constant of the rules and of the facts
 pub record HasConstants (pool : List (List ℕ)) (rules : RuleSet) (table : List Fact) : Type 0 where

@@ -1,1 +1,3 @@
 pub mod Checked
+pub mod Names
+pub mod States

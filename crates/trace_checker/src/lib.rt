@@ -1,7 +1,15 @@
-//! What a trace's check comes to, and what an accepted trace shows.
+//! Checks a trace against a mapping and a source, step by step. It stands on the definitions alone, and on no
+//! part of the chase.
 #![tactic(auto)]
 
+mod binding;
+mod checking;
+mod facts;
 pub mod laws;
+mod matching;
+mod name;
+mod state;
 mod verdict;
 
+pub use checking::check;
 pub use verdict::Verdict;
