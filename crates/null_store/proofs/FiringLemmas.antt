@@ -43,8 +43,8 @@ no_value tgd values v h = by (position (λ w. w == v) (frontier_of tgd)) refl
         let below = (((frontier_is tgd).same (get_or (frontier_of tgd) k 0)).0 (Contains-get_or (frontier_of tgd) k 0 at.0)).0 in
         absurd (omega (arith, same, below, h))
 
-module _ (tgd : Tgd) (n : NameOf) (name : ℕ) (span : Ends) (names : List NameOf) (is_named : slice_get names name ≡ Some n)
-    (values : List Seen) (old more : List NamedPiece) (safe : All (λ (atom : Atom). All (IsWithin (length tgd.vars)) atom.args) tgd.head)
+module _ (tgd : Tgd) (n : NameOf) (name : ℕ) (span : Ends) (names : List NameOf) (values : List Seen) (old more : List NamedPiece)
+    (is_named : 0 < length more → slice_get names name ≡ Some n) (safe : All (λ (atom : Atom). All (IsWithin (length tgd.vars)) atom.args) tgd.head)
     (has : HasFrontierValues tgd n.frontier values) (adds : AddsPieces tgd name span old more values (length tgd.vars))
     (rows later : List (Option SeenRow)) (spare room : Spare) where
   abbrev pieces : List (Option PieceOf)
@@ -66,10 +66,16 @@ module _ (tgd : Tgd) (n : NameOf) (name : ℕ) (span : Ends) (names : List NameO
   abbrev made : ℕ → PieceOf
   made v = record { unknown = unknown_in n (v - tgd.body_vars); span = span }
 
+  -- where a variable has a piece, some are new
+  some_more : (v k : ℕ) → IsPieceOf tgd name span (length old) more values v k → 0 < length more
+  some_more v k h =
+      let inside = slice_get_within more k (piece_for tgd name span v) h.piece in
+      omega (arith, inside)
+
   made_at : (v k : ℕ) → IsPieceOf tgd name span (length old) more values v k → held_at new_pieces k ≡ Some (made v)
   made_at v k h =
       ap (option_and_then (λ (p : Option PieceOf). p)) (at_map (piece_of names) more k (piece_for tgd name span v) h.piece)
-      ∙ ap (option_map (with_name (piece_for tgd name span v))) is_named
+      ∙ ap (option_map (with_name (piece_for tgd name span v))) (is_named (some_more v k h))
 
   value_at : (v k : ℕ) → IsPieceOf tgd name span (length old) more values v k → get_or values v (Piece 0) ≡ Piece (length pieces + k)
   value_at v k h = h.value ∙ ap (λ m. Piece (m + k)) (sym (length-map old (piece_of names)))
@@ -175,7 +181,7 @@ module _ (tgd : Tgd) (n : NameOf) (name : ℕ) (span : Ends) (names : List NameO
       let places : length pieces + j ≡ length pieces + k = cc in
       absurd (differ (omega (arith, places)))
 
-  module _ (ok : IsStore store) (fresh : IsFresh store n span) where
+  module _ (ok : IsStore store) (fresh : 0 < length more → IsFresh store n span) where
     -- no live piece of the name meets the span
     new_fresh : (m k : ℕ) (a b : PieceOf) → held_at pieces m ≡ Some a → held_at new_pieces k ≡ Some b → a.unknown ≡ b.unknown
         → AreApart a.span b.span
@@ -193,7 +199,7 @@ module _ (tgd : Tgd) (n : NameOf) (name : ℕ) (span : Ends) (names : List NameO
         ∙ ap (λ (u : HeldUnknown). unknown (unknown_value u)) unknowns in
         let held = subst (Contains (map (term_in store) row.0.cells)) term (contains_map (term_in store) row.0.cells (Piece m) row.2) in
         let none = All-contains (λ (fact : StampedOf (FactOf ConstId)). Meet fact.span span
-        → (var : ℕ) → ¬ (Contains fact.row.terms (unknown (named n.rule n.frontier var)))) (facts_in store) (fact_in store row.0) fresh
+        → (var : ℕ) → ¬ (Contains fact.row.terms (unknown (named n.rule n.frontier var)))) (facts_in store) (fact_in store row.0) (fresh (some_more x.0 k x.1))
         (held_contains (fact_in store) rows holder.0 row.0 row.1) in
         let over : b.span ≡ span = ap (λ (piece : PieceOf). piece.span) (sym x.2) in
         λ t in_a in_b. none

@@ -63,10 +63,15 @@ ready rules tgd n held names valid at can =
       pieces = fits.1.pieces;
     }
 
-module _ (tgd : Tgd) (n : NameOf) (name : ℕ) (span : Ends) (names : List NameOf) (is_named : slice_get names name ≡ Some n)
-    (held after : LinkedArena) (safe : All (λ (atom : Atom). All (IsWithin (length tgd.vars)) atom.args) tgd.head)
-    (fired : IsFired tgd n.frontier name span held after)
-    (sound : IsSound held names) (fresh : IsFresh (store_of held names) n span) where
+-- a rule without `exists` variables adds no piece
+pub none_new : (tgd : Tgd) (n : NameOf) (name : ℕ) (span : Ends) (held after : LinkedArena)
+    (fired : IsFired tgd n.frontier name span held after) → exists_count tgd ≡ 0 → ¬ (0 < length fired.more)
+none_new tgd n name span held after fired none some = omega (arith, fired.adds.few, none, some)
+
+module _ (tgd : Tgd) (n : NameOf) (name : ℕ) (span : Ends) (names : List NameOf) (held after : LinkedArena)
+    (safe : All (λ (atom : Atom). All (IsWithin (length tgd.vars)) atom.args) tgd.head)
+    (fired : IsFired tgd n.frontier name span held after) (is_named : 0 < length fired.more → slice_get names name ≡ Some n)
+    (sound : IsSound held names) (fresh : 0 < length fired.more → IsFresh (store_of held names) n span) where
   abbrev spare : Spare
   spare = record { rows = held.arena.spare_rows; cells = held.arena.spare_cells; pieces = held.room }
 
@@ -91,7 +96,7 @@ module _ (tgd : Tgd) (n : NameOf) (name : ℕ) (span : Ends) (names : List NameO
       let is = slice_get-get_or fired.more k d l in
       let same = same_some (slice_get fired.more k) (get_or fired.more k d) (piece_for tgd name span h.0) is h.2.piece in
       let number = ap (λ (piece : NamedPiece). piece.name) same in
-      let there = slice_get_within names name n is_named in
+      let there = slice_get_within names name n (is_named (omega (arith, l))) in
       omega (arith, number, there)
 
   pub sound_after : IsSound after names
@@ -99,7 +104,7 @@ module _ (tgd : Tgd) (n : NameOf) (name : ℕ) (span : Ends) (names : List NameO
     store =
         subst (λ (p : List (Option PieceOf)).
         IsStore (record { rows = later; pieces = p; names = names; spare = spare_after })) (sym pieces_is)
-        (store_after tgd n name span names is_named fired.values held.pieces fired.more safe fired.has_values fired.adds rows later spare
+        (store_after tgd n name span names fired.values held.pieces fired.more is_named safe fired.has_values fired.adds rows later spare
         spare_after sound.store fresh fired.rows);
     named = All-same (λ (piece : NamedPiece). piece.name < length names) after.pieces (held.pieces ++ fired.more) fired.pieces
         (All-append (λ (piece : NamedPiece). piece.name < length names) held.pieces fired.more sound.named more_named);
@@ -114,7 +119,7 @@ module _ (tgd : Tgd) (n : NameOf) (name : ℕ) (span : Ends) (names : List NameO
       let stamped : FactOf ConstId → StampedOf (FactOf ConstId) = λ fact. record { row = fact; span = span } in
       let its = ap (λ (o : Option Tgd). before
       ++ option_map_or (λ t. map stamped (fired_facts (λ c. c) n.rule t n.frontier)) o []) at in
-      let whole = facts_after tgd n name span names is_named fired.values held.pieces fired.more safe fired.has_values fired.adds rows later
+      let whole = facts_after tgd n name span names fired.values held.pieces fired.more is_named safe fired.has_values fired.adds rows later
       spare spare_after sound.store fresh fired.rows in
       record {
         rows = subst (λ l. IsPermutation l (facts_in (store_of after names))) (sym its)

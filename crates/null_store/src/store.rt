@@ -6,7 +6,7 @@ ghost use Rattle.term_core.specs.Order.{unknown_cmp};
 ghost use Rattle.rule_core.specs.Snapshot.{snapshot_at};
 ghost use Rattle.fact_table.specs.Rows.{HasCell, cell_at};
 ghost use Rattle.null_store.specs.Store.{IsStore, IsLive, piece_at, facts_in};
-ghost use Rattle.null_store.specs.Changes.{IsEmpty, HoldsSame, HasRoom, IsNamedAt, AddsOnce, KeepsAllButNames, CanFire, IsFresh, AddsFiring, CanStandFor, Substitutes, SubstitutesTerm, head_cells};
+ghost use Rattle.null_store.specs.Changes.{IsEmpty, HoldsSame, HasRoom, IsNamedAt, AddsOnce, KeepsAllButNames, CanFire, IsFresh, AddsFiring, CanStandFor, Substitutes, SubstitutesTerm, exists_count, head_cells};
 ghost use Rattle.null_store.specs.Splits.{CanSplit, SplitsRows, SplitsPieces, SplitsFacts, UsesRoomOf, cells_of};
 ghost use Rattle.null_store.specs.Lists.{rows_seen, HasOccurrences, HasRowsOf};
 ghost use Rattle.null_store.specs.Facts.{KeepsFacts};
@@ -107,6 +107,29 @@ impl NullStore {
         let tgd = &rules.tgds().as_slice()[named.rule as usize];
         let frontier = named.frontier.as_slice();
         fire(tgd, frontier, name, span, &mut self.rows, steps);
+    }
+
+    /// Adds the rows of a firing of a tgd that has no `exists` variables. No unknown comes of it, so
+    /// it needs no name. It takes at most two steps a cell.
+    pub fn add_plain<L: Ledger>(
+        &mut self,
+        rules: &Rules,
+        rule: u32,
+        frontier: &Items<ConstId>,
+        span: Span,
+        steps: &mut Steps<L>,
+    )
+        requires fits { CanFire rules.now self.old
+            (record { rule = rule; frontier = frontier.now }) }
+        requires plain { IsSomeAnd (slice_get rules.now.tgds rule) (λ tgd. exists_count tgd ≡ 0) }
+        ensures adds { AddsFiring rules.now (record { rule = rule; frontier = frontier.now })
+            span self.old self.new }
+        ensures steps { IsSomeAnd (slice_get rules.now.tgds rule)
+            (λ tgd. steps.new ≤ steps.old + 2 * head_cells tgd) }
+    {
+        rules.is_kept();
+        let tgd = &rules.tgds().as_slice()[rule as usize];
+        fire(tgd, frontier.as_slice(), 0, span, &mut self.rows, steps);
     }
 
     /// The rows and cells, under the same numbers. A cell that holds a piece is linked to the cells

@@ -33,8 +33,8 @@ invariant_of-self g c =
     let is = ready rules tgd n inside.rows inside.names c.is_kept.ensures at asked.0 in
     let fired = subst (λ (frontier : List ConstId).
     IsFired tgd frontier c.args.name c.args.span inside.rows c.fire.new.rows) c.as_slice-frontier.ensures.value c.fire.ensures.fired in
-    sound_after tgd n c.args.name c.args.span inside.names c.get-named.ensures inside.rows c.fire.new.rows is.safe fired c.self.invariant
-    asked.1
+    sound_after tgd n c.args.name c.args.span inside.names inside.rows c.fire.new.rows is.safe fired (λ some. c.get-named.ensures)
+    c.self.invariant (λ some. asked.1)
 
 pub returns-clause-adds : goal.returns-clause-adds
 returns-clause-adds g c =
@@ -51,8 +51,8 @@ returns-clause-adds g c =
     IsFired tgd frontier c.args.name c.args.span inside.rows c.fire.new.rows) c.as_slice-frontier.ensures.value c.fire.ensures.fired in
     subst (λ (s : Store). IsSomeAnd (slice_get s.names c.args.name) (λ m. AddsFiring rules m c.args.span s after)) c.self.view_is
     (and_some (λ (m : NameOf). AddsFiring rules m c.args.span store after) (slice_get store.names c.args.name) n c.get-named.ensures
-    (adds_firing tgd n c.args.name c.args.span inside.names c.get-named.ensures inside.rows c.fire.new.rows
-    is.safe fired c.self.invariant asked.1 rules at c.fire.ensures.room c.fire.ensures.cell_room c.fire.ensures.piece_room))
+    (adds_firing tgd n c.args.name c.args.span inside.names inside.rows c.fire.new.rows is.safe fired (λ some. c.get-named.ensures)
+    c.self.invariant (λ some. asked.1) rules at c.fire.ensures.room c.fire.ensures.cell_room c.fire.ensures.piece_room))
 
 pub returns-clause-steps : goal.returns-clause-steps
 returns-clause-steps g c =
