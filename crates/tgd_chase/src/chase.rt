@@ -6,7 +6,7 @@ ghost use Rattle.rule_core.specs.Firing.{firing_rows};
 ghost use Rattle.fact_table.specs.Snapshots.{stamped_facts};
 ghost use Rattle.normaliser.specs.Normalised.{IsEqualOrDisjoint};
 ghost use Rattle.null_store.specs.Store.{facts_in};
-ghost use Rattle.null_store.specs.Changes.{HoldsSame, HasRoom, IsFresh, head_cells, exists_count};
+ghost use Rattle.null_store.specs.Changes.{HoldsSame, HasRoom, CanFire, IsFresh, head_cells, exists_count};
 ghost use Rattle.failure_trace.specs.Entries.{entries_of};
 ghost use Rattle.failure_trace.specs.Firings.{AreFirings};
 ghost use Rattle.tgd_chase.specs.Fired.{HaveMatchEnds, HoldFiringFacts};
@@ -100,7 +100,7 @@ fn has_instant(firing: &Firing)
     let _start = firing.span.lo();
 }
 
-// Adds the rows of a firing, whose unknowns are new over its span.
+// Adds the rows of a firing, whose unknowns are new over its span. Where there are none, it needs no name.
 fn add_rows<L: Ledger>(
     rules: &Rules,
     firing: &Firing,
@@ -112,7 +112,26 @@ fn add_rows<L: Ledger>(
     ensures { OnOk result (AddsRows rules.now firing.now store.old store.new) }
 {
     rules.is_kept();
-    reserve_head(&rules.tgds().as_slice()[firing.rule as usize], store)?;
+    let tgd = &rules.tgds().as_slice()[firing.rule as usize];
+    reserve_head(tgd, store)?;
+    if tgd.vars.len() > tgd.body_vars as usize {
+        return add_named(rules, firing, store, steps);
+    }
+    store.add_plain(rules, firing.rule, &firing.frontier, firing.span, steps);
+    Ok(())
+}
+
+// Adds the rows of a firing in the spare room, whose unknowns get their name.
+fn add_named<L: Ledger>(
+    rules: &Rules,
+    firing: &Firing,
+    store: &mut NullStore,
+    steps: &mut Steps<L>,
+) -> Result<(), Memory>
+    requires fits { CanFire rules.now store.old (name_of firing.now) }
+    requires fresh { IsFresh store.old (name_of firing.now) firing.now.span }
+    ensures { OnOk result (AddsRows rules.now firing.now store.old store.new) }
+{
     let name = store.name(firing.rule, &firing.frontier)?;
     store.add_firing(rules, name, firing.span, steps);
     Ok(())

@@ -20,7 +20,7 @@ pub fn merge(alloc: Global, candidates: Vec<Candidate>) -> Result<Items<Firing>,
     requires instants { All (λ candidate. HasInstant candidate.support.span) candidates.items }
     ensures { IfOk result (AreMerged candidates.items) }
 {
-    let mut firings = Vec::new(alloc);
+    let mut firings = Vec::with_capacity(alloc, candidates.len())?;
     for candidate in candidates {
         take(alloc, &mut firings, candidate)?;
     }
@@ -51,13 +51,13 @@ fn begin(alloc: Global, firings: &mut Vec<Firing>, next: Candidate) -> Result<()
         support,
     } = next;
     let span = support.span;
-    let mut supports = Items::new(alloc);
+    let mut supports = Vec::with_capacity(alloc, 1)?;
     supports.push(support)?;
     firings.push(Firing {
         rule,
         frontier,
         span,
-        supports,
+        supports: Items::from_vec(supports),
     })?;
     Ok(())
 }

@@ -8,8 +8,8 @@ loop-candidate-init c =
     let gives = c.into_iter-candidate-iterator.ensures.into_iter_gives in
     record {
       size = omega (arith, gives.1, ap length gives.0);
-      merged = merged_none c.new-firings.result.items c.into_iter-candidate-iterator.result.rest.items c.args.candidates.items
-          c.new-firings.ensures.items gives.0 c.requires.sorted c.requires.instants;
+      merged = merged_none c.in_ok-firings.firings.items c.into_iter-candidate-iterator.result.rest.items c.args.candidates.items
+          c.in_ok-firings.ensures.items gives.0 c.requires.sorted c.requires.instants;
     }
 
 pub loop-candidate-preserved : goal.loop-candidate-preserved
