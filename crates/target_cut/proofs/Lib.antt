@@ -1,3 +1,5 @@
 pub mod SearchLemmas
 pub mod VisitLemmas
 pub mod ReachLemmas
+mod CancelLemmas
+mod RestLemmas

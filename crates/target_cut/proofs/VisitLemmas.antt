@@ -1,5 +1,5 @@
 -- A row as its cells are visited, from left to right.
-use Rattle.std.proofs.Common.{◌≡◌, ⊎_elim, inl, inr, ℕ, ◌+◌, ◌<◌, ◌≤◌, Some, None, Option, List, [], ◌∷◌, ◌++◌, length, refl, sym, ap, ◌∙◌, subst, arith, Contains, Bool, true, false, not, true≢false}
+use Rattle.std.proofs.Common.{◌≡◌, ⊎_elim, inl, inr, ℕ, zero, ◌+◌, ◌<◌, ◌≤◌, Some, None, Option, List, [], ◌∷◌, ◌++◌, length, refl, sym, ap, ◌∙◌, subst, arith, Contains, Bool, true, false, not, true≢false}
 use Rattle.std.specs.Prelude.{slice_get}
 use Rattle.std.specs.Option.{option_and_then, option_map}
 use Rattle.std.proofs.lemmas.Bool.{cases_lt}
@@ -25,7 +25,7 @@ live_in store ok row column piece e =
     and_some _ (piece_at store piece) p.0 p.1 tt
 
 module _ (store : Store) (row : ℕ) (old walked : List ℕ) where
-  pub visits_none : VisitsBelow store row 0 old old walked walked
+  pub visits_none : VisitsBelow store row zero old old walked walked
   visits_none = record {
     behind = ([], sym (append-nil old));
     pieces = λ k piece l e. absurd (omega arith);
