@@ -13,5 +13,12 @@ pub mod GrowthLemmas
 pub mod ThereLemmas
 pub mod FiringLemmas
 pub mod SoundLemmas
+pub mod PlaceLemmas
+pub mod SnapshotLemmas
+pub mod SplitLemmas
+pub mod CopyLemmas
+pub mod CutLemmas
+pub mod PartLemmas
+pub mod InstantLemmas
 pub mod LawLemmas
 pub mod SubstituteLemmas

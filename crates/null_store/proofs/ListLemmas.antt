@@ -145,6 +145,23 @@ contains_either {X} (Some y ∷ xs) ys x c = by c.0 c.1 c.2 (λ d. contains_eith
         (λ (d : Contains ys x). inr d)
         (rest (k, omega (arith, l), e))
 
+-- lists that hold the same at each place
+pub held_same : {X : Type 0} (a b : List (Option X)) → ((m : ℕ) → held_at b m ≡ held_at a m)
+    → filter_map (λ (o : Option X). o) a ≡ filter_map (λ (o : Option X). o) b
+held_same [] [] h = refl
+held_same [] (None ∷ b) h = held_same [] b (λ m. h (suc m))
+held_same [] (Some y ∷ b) h = let clash = h 0 in absurd cc
+held_same (None ∷ a) [] h = held_same a [] (λ m. h (suc m))
+held_same (Some y ∷ a) [] h = let clash = h 0 in absurd cc
+held_same (None ∷ a) (None ∷ b) h = held_same a b (λ m. h (suc m))
+held_same (None ∷ a) (Some y ∷ b) h = let clash = h 0 in absurd cc
+held_same (Some y ∷ a) (None ∷ b) h = let clash = h 0 in absurd cc
+held_same (Some y ∷ a) (Some z ∷ b) h =
+    let first = h 0 in
+    let same : y ≡ z = cc in
+    let rest = held_same a b (λ m. h (suc m)) in
+    λ i. same i ∷ rest i
+
 -- the list with one more
 pub one_added : {X : Type 0} (xs ys : List (Option X)) (n : ℕ) (x : X) → held_at xs n ≡ None → held_at ys n ≡ Some x
     → ((m : ℕ) → m ≢ n → held_at ys m ≡ held_at xs m)
@@ -159,35 +176,20 @@ one_added {X} xs ys n x vacant here others = IsPermutation-trans _ _ _
         → held_at b (suc m) ≡ held_at a (suc m)
     shift a b k h m differ = h (suc m) (λ same. differ (omega (arith, same)))
 
-    same_flat : (a b : List (Option X)) → ((m : ℕ) → held_at b m ≡ held_at a m) → flat a ≡ flat b
-    same_flat [] [] h = refl
-    same_flat [] (None ∷ b) h = same_flat [] b (λ m. h (suc m))
-    same_flat [] (Some y ∷ b) h = let clash = h 0 in absurd cc
-    same_flat (None ∷ a) [] h = same_flat a [] (λ m. h (suc m))
-    same_flat (Some y ∷ a) [] h = let clash = h 0 in absurd cc
-    same_flat (None ∷ a) (None ∷ b) h = same_flat a b (λ m. h (suc m))
-    same_flat (None ∷ a) (Some y ∷ b) h = let clash = h 0 in absurd cc
-    same_flat (Some y ∷ a) (None ∷ b) h = let clash = h 0 in absurd cc
-    same_flat (Some y ∷ a) (Some z ∷ b) h =
-        let first = h 0 in
-        let same : y ≡ z = cc in
-        let rest = same_flat a b (λ m. h (suc m)) in
-        λ i. same i ∷ rest i
-
     by : (a b : List (Option X)) (k : ℕ) → held_at a k ≡ None → held_at b k ≡ Some x → ((m : ℕ) → m ≢ k → held_at b m ≡ held_at a m)
         → IsPermutation (x ∷ flat a) (flat b)
     by a [] k v e h = absurd cc
     by [] (None ∷ b) zero v e h = absurd cc
     by [] (Some y ∷ b) zero v e h =
         let same : x ≡ y = cc in
-        let rest = same_flat [] b (λ m. h (suc m) (λ clash. omega (arith, clash))) in
+        let rest = held_same [] b (λ m. h (suc m) (λ clash. omega (arith, clash))) in
         subst (IsPermutation (x ∷ [])) (λ i. same i ∷ rest i) (IsPermutation-refl (x ∷ []))
     by [] (None ∷ b) (suc k) v e h = by [] b k refl e (shift [] (None ∷ b) k h)
     by [] (Some y ∷ b) (suc k) v e h = let clash = h 0 (λ c. omega (arith, c)) in absurd cc
     by (None ∷ a) (None ∷ b) zero v e h = absurd cc
     by (None ∷ a) (Some y ∷ b) zero v e h =
         let same : x ≡ y = cc in
-        let rest = same_flat a b (λ m. h (suc m) (λ clash. omega (arith, clash))) in
+        let rest = held_same a b (λ m. h (suc m) (λ clash. omega (arith, clash))) in
         subst (IsPermutation (x ∷ flat a)) (λ i. same i ∷ rest i) (IsPermutation-refl (x ∷ flat a))
     by (Some z ∷ a) (y ∷ b) zero v e h = absurd cc
     by (None ∷ a) (None ∷ b) (suc k) v e h = by a b k v e (shift (None ∷ a) (None ∷ b) k h)

@@ -1,6 +1,6 @@
 -- The rows of an arena as its cells are added and written.
-use Rattle.std.proofs.Common.{◌≡◌, ◌≢◌, ℕ, zero, suc, ◌<◌, Option, Some, None, List, [], ◌∷◌, length, map, get_or, set, refl, sym, ap, ◌∙◌, subst, arith, ⊎_elim, All}
-use Rattle.std.specs.Prelude.{slice_get, IsSomeAnd}
+use Rattle.std.proofs.Common.{◌≡◌, ◌≢◌, ℕ, zero, suc, ◌<◌, ◌≤◌, Option, Some, None, List, [], ◌∷◌, length, map, get_or, set, refl, sym, ap, ◌∙◌, subst, arith, ⊎_elim, All}
+use Rattle.std.specs.Prelude.{slice_get, IsSome, IsSomeAnd}
 use Rattle.std.specs.Option.{option_and_then, option_map, option_map_or}
 use Rattle.std.proofs.lemmas.Option.{slice_get-map, slice_get_within, slice_get-get_or}
 use Rattle.std.proofs.lemmas.List.{length-map}
@@ -9,16 +9,17 @@ use Rattle.term_core.specs.declared.term.Seen.{Seen}
 use Rattle.term_core.specs.declared.term.Seen.TheVariants.{Const, Piece}
 use Rattle.fact_table.specs.Rows.{SeenRow, row_at, HasCell, head_at, cell_at}
 use Rattle.fact_table.specs.declared.fact.RowHead.{RowHead}
+use Rattle.row_arena.specs.declared.held.TheConstants.{MOST_COLUMNS}
 use Rattle.row_arena.specs.declared.cell.Cell.{Cell}
 use Rattle.row_arena.specs.declared.cell.ArenaRow.{ArenaRow}
-use Rattle.row_arena.specs.Arena.{RowOf, Arena, IsArena, HasColumn, StandsAt, row_in, cell_in, head_of}
-use Rattle.row_arena.specs.Changes.{AddsRow, new_cell, with_content}
+use Rattle.row_arena.specs.Arena.{RowOf, Arena, IsArena, HasRow, HasColumn, StandsAt, row_in, cell_in, head_of}
+use Rattle.row_arena.specs.Changes.{AddsRow, SetsSpan, new_cell, with_content}
 use Rattle.row_arena.proofs.LookUpLemmas.{written_here, written_else}
 use Rattle.term_core.specs.declared.const_id.ConstId.{ConstId}
 use Rattle.null_store.specs.declared.piece.CellList.{CellList}
 use Rattle.null_store.specs.Lists.{value_at, seen_in, rows_seen, AreListed}
 use Rattle.null_store.specs.declared.piece.ListedPiece.{ListedPiece}
-use Rattle.null_store.specs.Layout.{LinkedArena, linked_of, IsPlain, HasPlain, AddsOne, with_cell, SetsCell, Links}
+use Rattle.null_store.specs.Layout.{LinkedArena, linked_of, IsPlain, HasPlain, AddsOne, with_cell, SetsCell, SetsRowSpan, Links}
 use Rattle.std.proofs.lemmas.Bool.{cases_eq}
 use Rattle.null_store.specs.Changes.{instead, row_instead, ReplacesCells}
 use Rattle.null_store.proofs.ListLemmas.{some_and, and_some, same_some, held_at, map_map}
@@ -308,3 +309,54 @@ module _ (old new : Arena) (ok : IsArena (row_in old) (cell_in old)) (rows : new
           values id c.0 c.1 ∙ ap (instead piece by) (sym (value_is (cell_in old) id c.0 c.1)))
           ∙ sym (map_map (instead piece by) (value_at (cell_in old)) r.cells) in
           λ i. Some (record { relation = r.relation; cells = cells i; span = r.span })
+
+-- a row gets another span
+module _ (old new : Arena) (number : ℕ) (span : Ends) (sets : SetsSpan old new number span) where
+  same_cells : (id : ℕ) → cell_in new id ≡ cell_in old id
+  same_cells id = ap (λ (l : List (Option Cell)). get_or l id None) sets.cells
+
+  pub span_listed : (lists : List CellList) → AreListed (cell_in old) lists → AreListed (cell_in new) lists
+  span_listed lists h = lists_stay (cell_in old) (cell_in new) lists (λ id c p v e. same_cells id ∙ e) (λ id c p v e. sym (same_cells id) ∙ e) h
+
+  same_seen : (o : Option RowOf) → option_map (seen_in (cell_in new)) o ≡ option_map (seen_in (cell_in old)) o
+  same_seen o = option_same (cell_in old) (cell_in new) o (λ r k id e at.
+      ap (λ (c : Option Cell). option_map_or (λ w. w.value) c (Const (record { 0 = 0 }))) (same_cells id))
+
+  pub sets_row_span : SetsRowSpan (rows_seen old) (rows_seen new) number span
+  sets_row_span = record {
+    here = row_seen new number ∙ ap (option_map (seen_in (cell_in new))) sets.row
+        ∙ same_seen (option_map over (row_in old number)) ∙ over_seen (row_in old number)
+        ∙ sym (ap (option_map seen_over) (row_seen old number));
+    others = λ n differ. row_seen new n ∙ ap (option_map (seen_in (cell_in new))) (sets.rows n differ) ∙ same_seen (row_in old n)
+        ∙ sym (row_seen old n);
+  }
+    where
+      over : RowOf → RowOf
+      over r = record { relation = r.relation; span = span; cells = r.cells }
+
+      seen_over : SeenRow → SeenRow
+      seen_over row = record { relation = row.relation; cells = row.cells; span = span }
+
+      over_seen : (o : Option RowOf) → option_map (seen_in (cell_in old)) (option_map over o)
+          ≡ option_map seen_over (option_map (seen_in (cell_in old)) o)
+      over_seen None = refl
+      over_seen (Some r) = refl
+
+pub has_row : (arena : Arena) (number : ℕ) → IsSome (row_at (rows_seen arena) number) → HasRow arena number
+has_row arena number h = by (row_in arena number) (subst (λ o. IsSome o) (row_seen arena number) h)
+  where
+    by : (o : Option RowOf) → IsSome (option_map (seen_in (cell_in arena)) o) → IsSome o
+    by None e = e
+    by (Some r) e = refl
+
+-- a row has no more cells than a row may have
+pub few_cells : (arena : Arena) → IsArena (row_in arena) (cell_in arena) → (number : ℕ) (row : SeenRow)
+    → row_at (rows_seen arena) number ≡ Some row → length row.cells ≤ MOST_COLUMNS
+few_cells arena ok number row e = by (row_in arena number) refl (sym (row_seen arena number) ∙ e)
+  where
+    by : (o : Option RowOf) → row_in arena number ≡ o → option_map (seen_in (cell_in arena)) o ≡ Some row → length row.cells ≤ MOST_COLUMNS
+    by None is h = absurd cc
+    by (Some r) is h =
+        let same : seen_in (cell_in arena) r ≡ row = cc in
+        subst (λ (w : SeenRow). length w.cells ≤ MOST_COLUMNS) same
+        (omega (arith, ok.few number r is, length-map r.cells (value_at (cell_in arena))))

@@ -1,7 +1,7 @@
 -- How a `NullStore` lays out its rows, pieces and names. No public clause cites this module.
-use Rattle.std.specs.Prelude.{◌≡◌, ◌≢◌, ℕ, ◌+◌, ◌-◌, ◌<◌, ◌≤◌, List, [], ◌++◌, Option, Some, None, true, false, if◌then◌else◌, IsSomeAnd, IsPermutation, All, ⊤, length, map, filter_map, slice_get, slice_set, slice_index_or}
-use Rattle.std.specs.Option.{option_map, option_or}
-use Rattle.time_line.specs.Span.{Ends}
+use Rattle.std.specs.Prelude.{◌≡◌, ◌≢◌, ◌⊎◌, ℕ, ◌+◌, ◌-◌, ◌<◌, ◌≤◌, ℤ, List, [], ◌∷◌, ◌++◌, Option, Some, None, true, false, if◌then◌else◌, IsSomeAnd, IsPermutation, All, Contains, ⊤, length, map, filter_map, slice_get, slice_set, slice_index_or}
+use Rattle.std.specs.Option.{option_map, option_map_or, option_or}
+use Rattle.time_line.specs.Span.{Ends, Has, IsInside, IsWithinLimit}
 use Rattle.term_core.specs.declared.const_id.ConstId.{ConstId}
 use Rattle.term_core.specs.declared.term.Unknown.{Unknown as HeldUnknown}
 use Rattle.term_core.specs.declared.term.Seen.{Seen}
@@ -24,6 +24,7 @@ use Rattle.null_store.specs.declared.piece.ListedPiece.{ListedPiece}
 use Rattle.null_store.specs.declared.firing.TheConstants.{MOST_VARIABLES}
 use Rattle.null_store.specs.Changes.{head_cells, exists_count}
 use Rattle.null_store.specs.Store.{NameOf, PieceOf, Store, IsStore}
+use Rattle.null_store.specs.Splits.{part_before, part_after, row_over, AreOnce, cells_of}
 use Rattle.null_store.specs.Lists.{rows_seen}
 
 -- an arena, the pieces that its cells hold, the lists of their cells, and for how many more pieces there is room
@@ -117,7 +118,31 @@ piece_of names piece = if piece.live then option_map (with_name piece) (slice_ge
 
 -- the piece when it has ended
 abbrev pub ended : NamedPiece → NamedPiece
-ended piece = record { name = piece.name; var = piece.var; span = piece.span; live = false }
+ended piece = record { name = piece.name; var = piece.var; span = piece.span; live = false; twin = piece.twin }
+
+-- the piece with the part before a cut, which knows the piece with the other part
+abbrev pub narrowed : Ends → ℕ → NamedPiece → NamedPiece
+narrowed before twin piece = record { name = piece.name; var = piece.var; span = before; live = piece.live; twin = twin }
+
+-- the piece with the other part
+abbrev pub cut_off : Ends → NamedPiece → NamedPiece
+cut_off after piece = record { name = piece.name; var = piece.var; span = after; live = piece.live; twin = 0 }
+
+-- the piece has the part before a cut, and a new piece, which comes last, the other
+abbrev pub PartsPiece : List NamedPiece → List NamedPiece → ℕ → Ends → Ends → Type 0
+PartsPiece old new piece before after = IsSomeAnd (slice_get old piece)
+    (λ p. new ≡ slice_set old piece (narrowed before (length old) p) ++ cut_off after p ∷ [])
+
+-- the piece is split where its span has the instant, and its twin is the new piece; else it has a twin
+abbrev pub HasTwin : List NamedPiece → List NamedPiece → ℕ → ℤ → Ends → Ends → ℕ → Type 0
+HasTwin old new piece m before after twin = IsSomeAnd (slice_get old piece) (λ p.
+    (Has p.span m × PartsPiece old new piece before after × (twin ≡ length old))
+    ⊎ (¬ (Has p.span m) × (new ≡ old) × (twin ≡ p.twin)))
+
+-- the row is over another span, and all else is as before
+pub record SetsRowSpan (old new : List (Option SeenRow)) (number : ℕ) (span : Ends) : Type 0 where
+  pub here : row_at new number ≡ option_map (λ row. record { relation = row.relation; cells = row.cells; span = span }) (row_at old number)
+  pub others : (other : ℕ) → other ≢ number → row_at new other ≡ row_at old other
 
 -- the piece has ended, and the others are as before
 abbrev pub EndsPiece : List NamedPiece → List NamedPiece → ℕ → Type 0
@@ -208,7 +233,7 @@ HasFrontierValues tgd frontier values = HasValuesBelow tgd frontier tgd.body_var
 
 -- the piece for an `exists` variable
 abbrev pub piece_for : Tgd → ℕ → Ends → ℕ → NamedPiece
-piece_for tgd name span v = record { name = name; var = v - tgd.body_vars; span = span; live = true }
+piece_for tgd name span v = record { name = name; var = v - tgd.body_vars; span = span; live = true; twin = 0 }
 
 -- the variable is an `exists` variable that the head has, and its piece is this one of the new pieces
 pub record IsPieceOf (tgd : Tgd) (name : ℕ) (span : Ends) (first : ℕ) (more : List NamedPiece) (values : List Seen) (v k : ℕ) : Type 0 where
@@ -242,3 +267,97 @@ pub record IsFired (tgd : Tgd) (frontier : List ConstId) (name : ℕ) (span : En
   pub pieces : new.pieces ≡ old.pieces ++ more
   pub has_values : HasFrontierValues tgd frontier values
   pub adds : AddsPieces tgd name span old.pieces more values (length tgd.vars)
+
+-- the twin of a piece
+abbrev pub twin_in : List NamedPiece → ℕ → ℕ
+twin_in pieces p = option_map_or (λ piece. piece.twin) (slice_get pieces p) 0
+
+-- the value with the twin of its piece
+abbrev pub twin_cell : (ℕ → ℕ) → Seen → Seen
+twin_cell twin (Const c) = Const c
+twin_cell twin (Piece p) = Piece (twin p)
+
+-- the row over a span, with the twins of its pieces
+abbrev pub twin_row : (ℕ → ℕ) → Ends → SeenRow → SeenRow
+twin_row twin span row = record { relation = row.relation; cells = map (twin_cell twin) row.cells; span = span }
+
+-- the row can be cut: each piece that it holds is not cut yet and has its span, or has a twin; and there is room
+pub record CanCutRow (m : ℤ) (held : LinkedArena) (row : SeenRow) : Type 0 where
+  pub inside : IsInside row.span m
+  pub pieces : (p : ℕ) → Contains row.cells (Piece p) → IsSomeAnd (slice_get held.pieces p)
+      (λ q. (Has q.span m → q.span ≡ row.span) × (¬ (Has q.span m) → q.twin < length held.pieces))
+  pub rows : 0 < held.arena.spare_rows
+  pub cells : length row.cells ≤ held.arena.spare_cells
+  pub room : length row.cells ≤ held.room
+
+-- the row has the part before the cut, its copy stands under a number that had no row, and the others stay
+pub record PartsRow (old new : List (Option SeenRow)) (number made : ℕ) (before : Ends) (other : SeenRow) : Type 0 where
+  pub here : row_at new number
+      ≡ option_map (λ row. record { relation = row.relation; cells = row.cells; span = before }) (row_at old number)
+  pub vacant : row_at old made ≡ None
+  pub copy : row_at new made ≡ Some other
+  pub others : (n : ℕ) → n ≢ number → n ≢ made → row_at new n ≡ row_at old n
+
+-- the piece was cut, and what it was is told by two pieces
+pub record IsCut (m : ℤ) (old new : List NamedPiece) (was now : NamedPiece) : Type 0 where
+  pub has : Has was.span m
+  pub first : now ≡ narrowed (part_before m was.span) now.twin was
+  pub second : slice_get new now.twin ≡ Some (cut_off (part_after m was.span) was)
+  pub new_twin : length old ≤ now.twin
+
+-- each piece is as it was, or is cut, and each new piece is the twin of one
+pub record CutsPieces (m : ℤ) (old new : List NamedPiece) : Type 0 where
+  pub kept : (p : ℕ) (was : NamedPiece) → slice_get old p ≡ Some was
+      → IsSomeAnd (slice_get new p) (λ now. (now ≡ was) ⊎ IsCut m old new was now)
+  pub added : (t : ℕ) (piece : NamedPiece) → length old ≤ t → slice_get new t ≡ Some piece
+      → (p : ℕ) × (was now : NamedPiece) × (slice_get old p ≡ Some was) × (slice_get new p ≡ Some now) × IsCut m old new was now
+      × (now.twin ≡ t)
+  pub grows : length old ≤ length new
+
+-- the pieces of the row are cut, what was cut before stays, and so does what the row does not hold
+pub record CutsRow (m : ℤ) (row : SeenRow) (old new : List NamedPiece) : Type 0 where
+  pub base : (first : List NamedPiece) → CutsPieces m first old
+      → ((p : ℕ) → Contains row.cells (Piece p) → p < length first) → CutsPieces m first new
+  pub kept : (p : ℕ) (piece : NamedPiece) → slice_get old p ≡ Some piece → ¬ (Has piece.span m) → slice_get new p ≡ Some piece
+  pub cut : (p : ℕ) → Contains row.cells (Piece p) → IsSomeAnd (slice_get new p) (λ q. ¬ (Has q.span m) × (q.twin < length new))
+  pub others : (p : ℕ) → p < length old → ¬ (Contains row.cells (Piece p)) → slice_get new p ≡ slice_get old p
+  pub grows : length old ≤ length new
+
+-- none of the rows' pieces is cut yet: each has its row's span
+pub record CanCutFirst (m : ℤ) (pieces : List NamedPiece) (row : SeenRow) : Type 0 where
+  pub inside : IsInside row.span m
+  pub over : (p : ℕ) → Contains row.cells (Piece p) → IsSomeAnd (slice_get pieces p) (λ q. q.span ≡ row.span)
+
+-- the rows can be cut, one after another
+pub record CanCutAll (m : ℤ) (held : LinkedArena) (numbers : List ℕ) : Type 0 where
+  pub limit : IsWithinLimit (Some m)
+  pub once : AreOnce numbers
+  pub each : (number : ℕ) → Contains numbers number → IsSomeAnd (row_at (rows_seen held.arena) number) (CanCutFirst m held.pieces)
+  pub rows : length numbers ≤ held.arena.spare_rows
+  pub cells : cells_of (rows_seen held.arena) numbers ≤ held.arena.spare_cells
+  pub room : cells_of (rows_seen held.arena) numbers ≤ held.room
+
+-- the row is cut, its copy stands under a number that had no row, and its pieces are cut
+pub record CutsOne (m : ℤ) (old new : List (Option SeenRow)) (pieces : List NamedPiece) (number copy : ℕ) (row : SeenRow) : Type 0 where
+  pub here : row_at new number ≡ Some (row_over (part_before m) row)
+  pub vacant : row_at old copy ≡ None
+  pub there : row_at new copy ≡ Some (twin_row (twin_in pieces) (part_after m row.span) row)
+  pub cut : (p : ℕ) → Contains row.cells (Piece p) → IsSomeAnd (slice_get pieces p) (λ q. ¬ (Has q.span m) × (q.twin < length pieces))
+
+-- each of the rows is cut, its copy has the number at the same place, and pieces that no such row holds stay
+pub record CutsAll (m : ℤ) (numbers made : List ℕ) (old new : LinkedArena) : Type 0 where
+  pub size : length made ≡ length numbers
+  pub once : AreOnce made
+  pub each : (k number copy : ℕ) (row : SeenRow) → slice_get numbers k ≡ Some number → slice_get made k ≡ Some copy
+      → row_at (rows_seen old.arena) number ≡ Some row
+      → CutsOne m (rows_seen old.arena) (rows_seen new.arena) new.pieces number copy row
+  pub others : (number : ℕ) → ¬ (Contains numbers number) → ¬ (Contains made number)
+      → row_at (rows_seen new.arena) number ≡ row_at (rows_seen old.arena) number
+  pub pieces : CutsPieces m old.pieces new.pieces
+  pub uncut : (p : ℕ) → p < length old.pieces
+      → ((number : ℕ) (row : SeenRow) → Contains numbers number → row_at (rows_seen old.arena) number ≡ Some row
+      → ¬ (Contains row.cells (Piece p)))
+      → slice_get new.pieces p ≡ slice_get old.pieces p
+  pub rows : new.arena.spare_rows + length numbers ≡ old.arena.spare_rows
+  pub cells : new.arena.spare_cells + cells_of (rows_seen old.arena) numbers ≡ old.arena.spare_cells
+  pub room : old.room ≤ new.room + cells_of (rows_seen old.arena) numbers

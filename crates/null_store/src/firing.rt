@@ -89,6 +89,7 @@ fn add_pieces(
                 var: variable - tgd.body_vars,
                 span,
                 live: true,
+                twin: 0,
             });
         }
     }

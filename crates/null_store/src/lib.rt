@@ -8,6 +8,7 @@ mod lists;
 mod names;
 mod piece;
 mod rows;
+mod splitting;
 mod store;
 
 pub use store::NullStore;

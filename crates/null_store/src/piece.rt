@@ -14,6 +14,8 @@ pub struct NamedPiece {
     pub span: Span,
     /// Whether the piece has not ended.
     pub live: bool,
+    /// The piece that got the later part of the span when it was cut last, else 0.
+    pub twin: usize,
 }
 
 /// The list of the cells that hold a piece.

@@ -1,13 +1,13 @@
 //! Rows over an arena, in which the cells that hold a piece are linked.
 
-ghost use Rattle.std.specs.Prelude.{◌≡◌, ◌≢◌, ℕ, List, ◌+◌, ◌*◌, ◌<◌, ◌≤◌, [], ◌∷◌, ◌++◌, Some, All, IfOk, OnOk, length, slice_get};
+ghost use Rattle.std.specs.Prelude.{◌≡◌, ◌≢◌, ℕ, List, ◌+◌, ◌*◌, ◌<◌, ◌≤◌, [], ◌∷◌, ◌++◌, Some, IsSome, All, IfOk, OnOk, length, slice_get};
 ghost use Rattle.term_core.specs.declared.term.Seen.TheVariants.{Piece, Const};
-ghost use Rattle.fact_table.specs.Rows.{HasCell, head_at, cell_at};
+ghost use Rattle.fact_table.specs.Rows.{HasCell, head_at, row_at, cell_at};
 ghost use Rattle.row_arena.specs.declared.held.TheConstants.{MOST_COLUMNS};
 ghost use Rattle.null_store.specs.Changes.{ReplacesCells};
 ghost use Rattle.null_store.specs.Lists.{rows_seen, IsOccurrenceList, HasOccurrences, HasRowsOf};
 ghost use Rattle.row_arena.specs.Arena.{HasCell as HasCellNumber, cell_in};
-ghost use Rattle.null_store.specs.Layout.{HoldsNothing, HasSame, IsPlain, HasPlain, AddsOne, SetsCell, HasSameRoom, CanLink, Links, Leads, IsOther, EndsPiece, ended, no_cell};
+ghost use Rattle.null_store.specs.Layout.{HoldsNothing, HasSame, IsPlain, HasPlain, AddsOne, SetsCell, HasSameRoom, CanLink, Links, Leads, IsOther, EndsPiece, PartsPiece, SetsRowSpan, ended, no_cell};
 
 use crate::lists::{rewrite, rows_of};
 use crate::piece::{CellList, ListedPiece, NamedPiece};
@@ -204,6 +204,49 @@ impl LinkedRows {
         self.pieces.push_reserved(ListedPiece { named, list });
     }
 
+    /// Writes the span of a row.
+    pub fn set_span(&mut self, row: usize, span: Span)
+        requires { IsSome (row_at (rows_seen self.old.arena) row) }
+        ensures sets { SetsRowSpan (rows_seen self.old.arena) (rows_seen self.new.arena) row span }
+        ensures room { HasSameRoom self.old self.new }
+        ensures pieces { self.new.pieces ≡ self.old.pieces }
+    {
+        self.arena.set_span(row, span);
+    }
+
+    /// Lets a piece have the one span, and a new piece that no cell holds the other, in the spare
+    /// room. Gives the new piece.
+    pub fn split_piece(&mut self, piece: usize, before: Span, after: Span) -> usize
+        requires piece { piece < length self.old.pieces }
+        requires room { 0 < self.old.room }
+        ensures twin { result ≡ length self.old.pieces }
+        ensures pieces { PartsPiece self.old.pieces self.new.pieces piece before after }
+        ensures arena { self.new.arena ≡ self.old.arena }
+        ensures room { self.new.room + 1 ≡ self.old.room }
+    {
+        let twin = self.len();
+        let listed = self.pieces[piece];
+        let named = NamedPiece {
+            name: listed.named.name,
+            var: listed.named.var,
+            span: before,
+            live: listed.named.live,
+            twin,
+        };
+        self.pieces[piece] = ListedPiece {
+            named,
+            list: listed.list,
+        };
+        self.add_piece(NamedPiece {
+            name: listed.named.name,
+            var: listed.named.var,
+            span: after,
+            live: listed.named.live,
+            twin: 0,
+        });
+        twin
+    }
+
     /// Adds a row of these constants, in the spare room, and gives its number.
     pub fn add_row(&mut self, relation: u32, span: Span, values: &[Seen]) -> usize
         requires row { 0 < self.old.arena.spare_rows }
@@ -345,6 +388,7 @@ fn end(named: NamedPiece) -> ListedPiece
             var: named.var,
             span: named.span,
             live: false,
+            twin: named.twin,
         },
         list: CellList {
             first: None,

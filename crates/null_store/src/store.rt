@@ -1,11 +1,13 @@
 //! A store of rows over constants and pieces of unknowns.
 
-ghost use Rattle.std.specs.Prelude.{◌≡◌, ◌↔◌, ℕ, ◌+◌, ◌*◌, ◌≤◌, Some, IsTrue, IsSomeAnd, IfOk, OnOk, OnErr, length, slice_get};
+ghost use Rattle.std.specs.Prelude.{◌≡◌, ◌↔◌, ℤ, ℕ, ◌+◌, ◌*◌, ◌≤◌, [], Some, IsPermutation, IsTrue, IsSomeAnd, IfOk, OnOk, OnErr, length, slice_get};
 ghost use Rattle.std.specs.declared.cmp.Ordering.TheVariants.{Less};
 ghost use Rattle.term_core.specs.Order.{unknown_cmp};
+ghost use Rattle.rule_core.specs.Snapshot.{snapshot_at};
 ghost use Rattle.fact_table.specs.Rows.{HasCell, cell_at};
-ghost use Rattle.null_store.specs.Store.{IsStore, IsLive, piece_at};
+ghost use Rattle.null_store.specs.Store.{IsStore, IsLive, piece_at, facts_in};
 ghost use Rattle.null_store.specs.Changes.{IsEmpty, HoldsSame, HasRoom, IsNamedAt, AddsOnce, KeepsAllButNames, CanFire, IsFresh, AddsFiring, CanStandFor, Substitutes, SubstitutesTerm, head_cells};
+ghost use Rattle.null_store.specs.Splits.{CanSplit, SplitsRows, SplitsPieces, SplitsFacts, UsesRoomOf, cells_of};
 ghost use Rattle.null_store.specs.Lists.{rows_seen, HasOccurrences, HasRowsOf};
 ghost use Rattle.null_store.specs.Facts.{KeepsFacts};
 ghost use Rattle.null_store.specs.Layout.{name_of, unknown_in};
@@ -13,6 +15,7 @@ ghost use Rattle.null_store.specs.Layout.{name_of, unknown_in};
 use crate::firing::fire;
 use crate::names::{Name, Names};
 use crate::rows::LinkedRows;
+use crate::splitting::split_all;
 use fact_table::{FactSource, RowHead};
 use row_arena::RowArena;
 use rule_core::Rules;
@@ -20,7 +23,7 @@ use std::alloc::Global;
 use std::cmp::Ordering;
 use std::marker::Model;
 use std::sync::ledger::Ledger;
-use term_core::{ConstId, Items, Memory, Seen, Steps, Unknown};
+use term_core::{ConstId, Items, Memory, Seen, Slots, Steps, Unknown};
 use time_line::Span;
 
 /// Rows of a target. Each piece is in a row, and the rows that hold it have its span. Pieces of one
@@ -149,6 +152,31 @@ impl NullStore {
             × (steps.new ≤ steps.old + 3 * n) }
     {
         self.rows.substitute(piece, by, steps);
+    }
+
+    /// Cuts rows at an instant, each with all rows that share a piece with it, in the spare room. A
+    /// row keeps the part of its span before the instant, and a copy of it has the part from it on.
+    /// The numbers of the copies go into a list with no item, in the order of the rows. It takes no
+    /// memory, and at most three steps a cell.
+    pub fn split_rows<L: Ledger>(
+        &mut self,
+        rows: &Items<usize>,
+        m: i64,
+        made: &mut Slots<usize>,
+        steps: &mut Steps<L>,
+    )
+        requires can { CanSplit self.old rows.now m }
+        requires empty { made.old.items ≡ [] }
+        requires room { length rows.now ≤ made.old.room }
+        ensures rows { SplitsRows rows.now m made.new.items self.old self.new }
+        ensures pieces { SplitsPieces rows.now m self.old self.new }
+        ensures facts { SplitsFacts rows.now m self.old self.new }
+        ensures snapshots { (t : ℤ) → IsPermutation (snapshot_at (facts_in self.old) t)
+            (snapshot_at (facts_in self.new) t) }
+        ensures room { UsesRoomOf rows.now self.old self.new }
+        ensures steps { steps.new ≤ steps.old + 3 * cells_of self.old.rows rows.now }
+    {
+        split_all(rows.as_slice(), m, made, &mut self.rows, steps);
     }
 
     /// The unknown of a live piece.
