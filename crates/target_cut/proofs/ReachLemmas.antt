@@ -17,7 +17,8 @@ use Rattle.null_store.proofs.ListLemmas.{stands, in_front, contains_from_at, at_
 use Rattle.failure_trace.specs.JournalRun.{Reaches}
 use Rattle.failure_trace.specs.JournalRun.Reaches.{here, further}
 use Rattle.null_store.specs.Store.{Store}
-use Rattle.target_cut.specs.Component.{HasPiece, SharePiece, IsComponentOf}
+use Rattle.null_store.specs.Splits.{HasPiece, SharePiece}
+use Rattle.target_cut.specs.Component.{IsComponentOf}
 use Rattle.target_cut.specs.Search.{Visits, Finds}
 use Rattle.target_cut.proofs.SearchLemmas.{number_found, stays}
 

@@ -1,9 +1,8 @@
 -- What is held in a list is what is held at some places, and the rest.
-use Rattle.std.proofs.Common.{◌≡◌, ◌≢◌, ⊎_elim, inl, inr, ℕ, zero, suc, ◌<◌, Option, Some, None, List, [], ◌∷◌, ◌++◌, length, set, refl, sym, ap, ◌∙◌, subst, arith, All, AllPairs, Contains, IsPermutation}
+use Rattle.std.proofs.Common.{◌≡◌, ◌≢◌, ⊎_elim, inl, inr, ℕ, zero, suc, ◌<◌, Option, Some, None, List, [], ◌∷◌, ◌++◌, set, refl, sym, ap, ◌∙◌, subst, arith, AllPairs, Contains, IsPermutation}
 use Rattle.std.specs.List.{cons_option, filter_map}
 use Rattle.std.specs.Option.{option_map}
 use Rattle.std.proofs.lemmas.Bool.{cases_eq}
-use Rattle.std.proofs.lemmas.List.Elements.{All-head, All-tail}
 use Rattle.std.proofs.lemmas.List.Sorted.{IsPermutation-refl, IsPermutation-trans, IsPermutation-cons}
 use Rattle.rule_core.proofs.ListLemmas.{Contains-nil, Contains-head, Contains-cons, Contains-cons_cases, Contains-from_map, AllPairs-head, AllPairs-tail}
 use Rattle.null_store.proofs.ListLemmas.{held_at, held_map_all, held_place}
@@ -47,11 +46,13 @@ module _ {X : Type 0} where
       let later = rest_held (set xs m None) ns n x e in
       ⊎_elim
       (λ (same : n ≡ m). let none = ap (held_at (set xs m None)) same ∙ emptied xs m in absurd cc)
-      (λ (differ : n ≢ m). (sym (kept xs m n differ) ∙ later.0,
-      λ c. elim (Contains-cons_cases m n ns c) [
-        | inl same ↦ differ (sym same)
-        | inr d ↦ later.1 d
-      ]))
+      (λ (differ : n ≢ m). (
+        sym (kept xs m n differ) ∙ later.0,
+        λ c. elim (Contains-cons_cases m n ns c) [
+          | inl same ↦ differ (sym same)
+          | inr d ↦ later.1 d
+        ],
+      ))
       (cases_eq n m)
 
   module _ {Y : Type 0} (f : X → Y) where

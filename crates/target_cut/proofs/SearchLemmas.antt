@@ -14,7 +14,7 @@ use Rattle.fact_table.specs.Rows.{SeenRow, row_at, cell_at}
 use Rattle.null_store.specs.Lists.{Place, HasRowsOf}
 use Rattle.null_store.proofs.ListLemmas.{some_and, contains_from_at, at_from_contains}
 use Rattle.null_store.specs.Store.{Store}
-use Rattle.target_cut.specs.Component.{HasPiece}
+use Rattle.null_store.specs.Splits.{HasPiece}
 use Rattle.target_cut.specs.Search.{Walks}
 
 -- a number is added where it is new, behind the others

@@ -12,7 +12,7 @@ use Rattle.fact_table.specs.Rows.{SeenRow, row_at, head_of, head_at, cell_at}
 use Rattle.fact_table.specs.declared.fact.RowHead.{RowHead}
 use Rattle.null_store.specs.Store.{Store, IsStore, IsLive, IsLiveOver, PieceOf, piece_at}
 use Rattle.null_store.proofs.ListLemmas.{some_and, and_some}
-use Rattle.target_cut.specs.Component.{HasPiece}
+use Rattle.null_store.specs.Splits.{HasPiece}
 use Rattle.target_cut.specs.Search.{Walks, VisitsBelow, Visits}
 use Rattle.target_cut.proofs.SearchLemmas.{Inserts, stays, held_cell, cell_held}
 

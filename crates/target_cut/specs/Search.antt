@@ -4,7 +4,7 @@ use Rattle.term_core.specs.declared.term.Seen.TheVariants.{Piece}
 use Rattle.fact_table.specs.Rows.{cell_at}
 use Rattle.null_store.specs.Store.{Store}
 use Rattle.failure_trace.specs.JournalRun.{Reaches}
-use Rattle.target_cut.specs.Component.{HasPiece, SharePiece}
+use Rattle.null_store.specs.Splits.{HasPiece, SharePiece}
 
 -- the rows that hold the piece are there too, behind the others
 pub record Walks (store : Store) (piece : ℕ) (old new : List ℕ) : Type 0 where

@@ -2,6 +2,8 @@
 //! sharing pieces, since the rows that hold a piece have one span.
 #![tactic(auto)]
 
+mod cutting;
 mod sharing;
 
+pub use cutting::{Cut, cut_piece};
 pub use sharing::component;
