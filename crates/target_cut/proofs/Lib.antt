@@ -1,0 +1,9 @@
+pub mod SearchLemmas
+pub mod VisitLemmas
+pub mod ReachLemmas
+pub mod CancelLemmas
+pub mod RestLemmas
+pub mod ComponentLemmas
+pub mod JournalLemmas
+pub mod SameLemmas
+pub mod CutLemmas
