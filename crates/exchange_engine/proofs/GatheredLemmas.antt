@@ -1,13 +1,16 @@
 -- Texts and facts, gathered one after another.
 use Rattle.std.proofs.Common.{◌≡◌, ◌↔◌, ◌⊎◌, inl, inr, ℕ, ◌+◌, ◌≤◌, List, [], ◌∷◌, ◌++◌, Some, length, take, sum_by, sym, ap, ◌∙◌, subst, arith, All, Any, Contains}
-use Rattle.std.specs.Prelude.{slice_get}
-use Rattle.std.proofs.lemmas.List.{take_more, take_all}
+use Rattle.std.specs.Prelude.{slice_get, IsPermutation}
+use Rattle.std.proofs.lemmas.List.{take_more, take_all, length-append, length-map, map-append}
+use Rattle.std.proofs.lemmas.List.Sorted.{Contains-permutation, IsPermutation-sym, length_permutation}
 use Rattle.std.proofs.lemmas.List.Sums.{sum_by_push}
 use Rattle.std.proofs.lemmas.List.Elements.{All-get_or, Contains-append_left, Contains-push, Contains-push_cases}
 use Rattle.std.proofs.lemmas.List.Quantifiers.{Any-push}
-use Rattle.std.proofs.lemmas.Option.{slice_get_within, get_or_from_slice_get}
-use Rattle.rule_core.proofs.ListLemmas.{Contains-nil}
-use Rattle.exchange_engine.specs.Gathered.{Gains}
+use Rattle.std.proofs.lemmas.Option.{slice_get_within, slice_get-map, get_or_from_slice_get}
+use Rattle.std.specs.Option.{option_map}
+use Rattle.rule_core.proofs.ListLemmas.{Contains-nil, Contains-map, Contains-from_map}
+use Rattle.exchange_engine.specs.Gathered.{Gains, texts_of}
+use Rattle.exchange_engine.specs.declared.loading.pool.Found.{Found}
 
 -- nothing is added
 pub Gains-none : (texts : List (List ℕ)) (IsMore : List ℕ → Type 0) → ((text : List ℕ) → ¬ (IsMore text)) → Gains texts texts IsMore 0
@@ -15,6 +18,48 @@ Gains-none texts IsMore none = record {
   texts = λ text. (λ c. inl c, λ h. elim h [ inl c ↦ c | inr m ↦ absurd (none text m) ]);
   few = omega arith;
 }
+
+-- one text is added
+Gains-one : (texts : List (List ℕ)) (text : List ℕ) → Gains texts (texts ++ text ∷ []) (λ t. t ≡ text) 1
+Gains-one texts text = record {
+  texts = λ t. (
+    λ c. elim (Contains-push_cases texts text t c) [ inl before ↦ inl before | inr same ↦ inr (sym same) ],
+    λ h. elim h [
+      | inl c ↦ Contains-append_left texts (text ∷ []) t c
+      | inr same ↦ subst (Contains (texts ++ text ∷ [])) (sym same) (Contains-push texts text)
+    ],
+  );
+  few = omega (arith, length-append texts (text ∷ []));
+}
+
+-- the text at the place of what was found
+pub text_found : (found : List Found) (i : ℕ) (one : Found) → slice_get found i ≡ Some one → slice_get (texts_of found) i ≡ Some one.text.now
+text_found found i one here =
+    slice_get-map (λ (f : Found). f.text.now) found i ∙ ap (option_map (λ (f : Found). f.text.now)) here
+
+-- one more text is found
+pub Gains-found : (old new : List Found) (one : Found) (text : List ℕ) → one.text.now ≡ text → new ≡ old ++ one ∷ []
+    → Gains (texts_of old) (texts_of new) (λ t. t ≡ text) 1
+Gains-found old new one text same pushed =
+    subst (λ l. Gains (texts_of old) l (λ t. t ≡ text) 1)
+    ((λ i. texts_of old ++ sym same i ∷ []) ∙ sym (map-append (λ (f : Found). f.text.now) old (one ∷ [])) ∙ ap texts_of (sym pushed))
+    (Gains-one (texts_of old) text)
+
+-- in another order the same texts are found
+pub Gains-moved : (old new : List (List ℕ)) (found moved : List Found) (n : ℕ) → IsPermutation found moved
+    → Gains old new (Contains (texts_of moved)) n → Gains old new (Contains (texts_of found)) n
+Gains-moved old new found moved n order h = record {
+  texts = λ text. (
+    λ c. elim ((h.texts text).0 c) [ inl o ↦ inl o | inr m ↦ inr (back moved found (IsPermutation-sym found moved order) text m) ],
+    λ d. elim d [ inl o ↦ (h.texts text).1 (inl o) | inr m ↦ (h.texts text).1 (inr (back found moved order text m)) ],
+  );
+  few = h.few;
+}
+  where
+    back : (a b : List Found) → IsPermutation a b → (text : List ℕ) → Contains (texts_of a) text → Contains (texts_of b) text
+    back a b p text c =
+        let one = Contains-from_map (λ (f : Found). f.text.now) a text c in
+        subst (Contains (texts_of b)) one.2 (Contains-map (λ (f : Found). f.text.now) b one.0 (Contains-permutation a b one.0 p one.1))
 
 -- texts are added, and then others
 pub Gains-more : (old mid new : List (List ℕ)) (P Q R : List ℕ → Type 0) (m n k : ℕ) → Gains old mid P m → Gains mid new Q n
@@ -94,19 +139,40 @@ pub Gains-elements : {X : Type 0} (old new : List (List ℕ)) (P : X → List �
 Gains-elements old new P size xs i end h =
     subst (λ front. Gains old new (λ t. Any (λ y. P y t) front) (sum_by size front)) (take_all i xs end) h
 
--- the pool of what is added to nothing, and then of what is added to that
-pub pool_has : (start mid new pool : List (List ℕ)) (P Q : List ℕ → Type 0) (m n : ℕ) → start ≡ [] → Gains start mid P m → Gains mid new Q n
-    → ((text : List ℕ) → Contains pool text ↔ Contains new text) → (text : List ℕ) → Contains pool text ↔ (P text ⊎ Q text)
-pool_has start mid new pool P Q m n empty first second same text = (
-  λ c. elim ((second.texts text).0 ((same text).0 c)) [
-    | inl before ↦ elim ((first.texts text).0 before) [
-      | inl none ↦ absurd (Contains-nil text (subst (λ l. Contains l text) empty none))
-      | inr p ↦ inl p
-    ]
-    | inr q ↦ inr q
-  ],
-  λ h. (same text).1 (elim h [
-    | inl p ↦ (second.texts text).1 (inl ((first.texts text).1 (inr p)))
-    | inr q ↦ (second.texts text).1 (inr q)
-  ]),
-)
+-- the pool of what is found in one list, and then in another
+pub pool_has : (start mid found moved : List Found) (empty new pool : List (List ℕ)) (P Q : List ℕ → Type 0) (m n k : ℕ) → start ≡ []
+    → Gains (texts_of start) (texts_of mid) P m → Gains (texts_of mid) (texts_of found) Q n → IsPermutation found moved → empty ≡ []
+    → Gains empty new (Contains (texts_of moved)) k → ((text : List ℕ) → Contains pool text ↔ Contains new text)
+    → (text : List ℕ) → Contains pool text ↔ (P text ⊎ Q text)
+pool_has start mid found moved empty new pool P Q m n k none first second order nothing all same text =
+    let its = Gains-moved empty new found moved k order all in (
+      λ c. elim ((its.texts text).0 ((same text).0 c)) [
+        | inl o ↦ absurd (Contains-nil text (subst (λ l. Contains l text) nothing o))
+        | inr f ↦ elim ((second.texts text).0 f) [
+          | inl before ↦ elim ((first.texts text).0 before) [
+            | inl o ↦ absurd (Contains-nil text (subst (λ l. Contains (texts_of l) text) none o))
+            | inr p ↦ inl p
+          ]
+          | inr q ↦ inr q
+        ]
+      ],
+      λ h. (same text).1 ((its.texts text).1 (inr (elim h [
+        | inl p ↦ (second.texts text).1 (inl ((first.texts text).1 (inr p)))
+        | inr q ↦ (second.texts text).1 (inr q)
+      ]))),
+    )
+
+-- so many texts are found at most
+pub few_found : (start mid found moved : List Found) (P Q : List ℕ → Type 0) (m n : ℕ) → start ≡ []
+    → Gains (texts_of start) (texts_of mid) P m → Gains (texts_of mid) (texts_of found) Q n → IsPermutation found moved
+    → length moved ≤ m + n
+few_found start mid found moved P Q m n none first second order =
+    omega (
+      arith,
+      first.few,
+      second.few,
+      length-map start (λ (f : Found). f.text.now),
+      ap length none,
+      length-map found (λ (f : Found). f.text.now),
+      length_permutation found moved order,
+    )

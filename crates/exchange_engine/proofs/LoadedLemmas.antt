@@ -113,10 +113,10 @@ module _ (pool : List (List ℕ)) (tables : List RawTable) (facts table : List F
     λ c.
         let x = Contains-from_map (as_text pool) table fact c in
         let there = subst (λ l. Contains l x.0) added.behind ((same x.0).0 x.1) in
-        subst (λ l. Contains l fact) added.reads
+        (added.reads fact).0
         (subst (Contains (map (as_text pool) added.more)) x.2 (Contains-map (as_text pool) added.more x.0 there)),
     λ c.
-        let x = Contains-from_map (as_text pool) added.more fact (subst (λ l. Contains l fact) (sym added.reads) c) in
+        let x = Contains-from_map (as_text pool) added.more fact ((added.reads fact).1 c) in
         let there = (same x.0).1 (subst (λ l. Contains l x.0) (sym added.behind) x.1) in
         subst (Contains (map (as_text pool) table)) x.2 (Contains-map (as_text pool) table x.0 there),
   )

@@ -2,6 +2,7 @@
 use Rattle.std.specs.Prelude.{◌≡◌, ◌↔◌, ◌⊎◌, ℕ, ◌+◌, ◌<◌, ◌≤◌, List, ◌++◌, length, map, All, Contains}
 use Rattle.rule_core.specs.Terms.{constant, FactOf, StampedOf}
 use Rattle.fact_table.specs.declared.fact.Fact.{Fact}
+use Rattle.exchange_engine.specs.declared.loading.pool.Found.{Found}
 use Rattle.exchange_engine.specs.Loading.{RawTable, as_text}
 
 -- the new texts are the old ones and such as these, and so many more at most
@@ -9,11 +10,15 @@ pub record Gains (old new : List (List ℕ)) (IsMore : List ℕ → Type 0) (cou
   pub texts : (text : List ℕ) → Contains new text ↔ (Contains old text ⊎ IsMore text)
   pub few : length new ≤ length old + count
 
--- behind the old facts stand more, of numbers of the pool, which are these as texts
+-- the texts that were found
+abbrev pub texts_of : List Found → List (List ℕ)
+texts_of found = map (λ f. f.text.now) found
+
+-- behind the old facts stand more, of numbers of the pool, which are these as texts, in some order
 pub record Adds (pool : List (List ℕ)) (old new : List Fact) (read : List (StampedOf (FactOf (List ℕ)))) : Type 0 where
   pub more : List Fact
   pub behind : new ≡ old ++ more
-  pub reads : map (as_text pool) more ≡ read
+  pub reads : (fact : StampedOf (FactOf (List ℕ))) → Contains (map (as_text pool) more) fact ↔ Contains read fact
   pub within : All (λ fact. All (λ c. c.0 < length pool) fact.row) more
 
 -- a row of texts as a fact of a relation

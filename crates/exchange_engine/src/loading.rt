@@ -5,6 +5,7 @@ ghost use Rattle.rule_core.specs.Rebase.{IsRebased};
 ghost use Rattle.exchange_engine.specs.Loading.{AreTablesOf, AreFactsOf, HasText, cell_count};
 
 mod facts;
+mod front;
 mod pool;
 
 use crate::Loaded;

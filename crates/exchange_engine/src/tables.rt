@@ -136,13 +136,12 @@ fn row_of<L: Ledger>(
     ensures { IfOk result (λ entry. IsSomeAnd (row_at store.now.rows row)
         (λ seen. IsRowOf store.now seen entry)) }
 {
-    let mut terms = Items::new(alloc);
-    terms.room(head.arity)?;
+    let mut terms = Vec::with_capacity(alloc, head.arity)?;
     for column in 0..head.arity {
         terms.push(term_at(store, row, column, steps)?)?;
     }
     Ok(Stamped {
-        row: terms,
+        row: Items::from_vec(terms),
         span: head.span,
     })
 }

@@ -5,4 +5,4 @@ use Rattle.exchange_engine.proofs.GroupedLemmas.{AreFirstTerms}
 use Rattle.exchange_engine.proofs.tables.row_of.Given as goal
 
 abbrev pub invariant-loop-column : goal.invariant-loop-column
-invariant-loop-column g l = IsSomeAnd (row_at l.store.rows l.row) (AreFirstTerms l.store l.row l.column l.terms)
+invariant-loop-column g l = IsSomeAnd (row_at l.store.rows l.row) (AreFirstTerms l.store l.row l.column l.terms.items)

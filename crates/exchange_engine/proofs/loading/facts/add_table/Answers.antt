@@ -1,39 +1,43 @@
-use Rattle.std.proofs.Common.{List, [], ◌∷◌, length, take, refl, sym, subst, arith, All, Contains}
+use Rattle.std.proofs.Common.{Some, List, [], map, sym, subst, arith, slice_get, IsPermutation}
 use Rattle.std.proofs.lemmas.List.{take_all}
-use Rattle.std.proofs.lemmas.Option.{slice_get_read}
+use Rattle.std.proofs.lemmas.List.Elements.{Contains-get_or}
+use Rattle.std.proofs.lemmas.Option.{slice_get_within, slice_get-get_or}
 use Rattle.fact_table.specs.declared.fact.Fact.{Fact}
-use Rattle.exchange_engine.specs.Gathered.{Adds, raw_fact, raw_facts}
-use Rattle.exchange_engine.proofs.GatheredLemmas.{All-at}
-use Rattle.exchange_engine.proofs.FactLemmas.{Adds-none, Adds-fact, Adds-more, raw_facts-more}
+use Rattle.exchange_engine.specs.Loading.{RawTable}
+use Rattle.exchange_engine.specs.declared.loading.facts.Head.{Head}
+use Rattle.exchange_engine.proofs.FactLemmas.{AddsInTurn, in_turn-none, in_turn-more, in_turn-all, row_of}
 use Rattle.exchange_engine.proofs.loading.facts.add_table.Goals as goal
 
-pub loop-raw-init : goal.loop-raw-init
-loop-raw-init c =
-    subst (λ (l : List Fact). Adds c.args.pool.now c.args.facts.now l []) (sym c.in_ok-room.ensures) (Adds-none c.args.pool.now c.args.facts.now)
+pub loop-head-init : goal.loop-head-init
+loop-head-init c =
+    subst (λ (l : List Fact). AddsInTurn c.args.pool.now c.args.relation c.args.table.now [] c.args.facts.now l) (sym c.in_ok-room.ensures)
+    (in_turn-none c.args.pool.now c.args.relation c.args.table.now c.args.facts.now)
 
-pub numbered_fact-requires : goal.numbered_fact-requires
-numbered_fact-requires c =
-    let table = c.args.table.now in
-    let i = c.loop-raw.raw-index in
-    let here = slice_get_read table (length table) i c.raw-item.result refl (omega (arith, c.loop-raw-test.true)) c.raw-item.is in
-    All-at (λ raw. All (Contains c.args.pool.now) raw.row) table i c.raw-item.result c.requires here
+pub fact_at-requires-clause-within : goal.fact_at-requires-clause-within
+fact_at-requires-clause-within c =
+    let table : RawTable = c.args.table.now in
+    let heads : List Head = c.deref-head-items.result.now in
+    let all : IsPermutation (map (λ raw. Some raw) table) (map (λ (h : Head). slice_get table h.at) heads) =
+    subst (λ (l : List Head). IsPermutation (map (λ raw. Some raw) table) (map (λ (h : Head). slice_get table h.at) l))
+    (sym c.deref-head-items.ensures.value) c.in_ok-heads.ensures in
+    let row = row_of c.args.pool.now c.args.relation table heads all _
+    (Contains-get_or heads c.loop-head.head-index _ (omega (arith, c.loop-head-test.true))) in
+    slice_get_within table _ row.0 row.2
 
-pub loop-raw-preserved : goal.loop-raw-preserved
-loop-raw-preserved c =
-    let pool = c.args.pool.now in
-    let table = c.args.table.now in
-    let relation = c.args.relation in
-    let i = c.loop-raw.raw-index in
-    let raw = c.raw-item.result in
-    let fact = c.in_ok-numbered_fact.field-0 in
-    let here = slice_get_read table (length table) i raw refl (omega (arith, c.loop-raw-test.true)) c.raw-item.is in
-    subst (Adds pool c.args.facts.now c.push.new.self) (sym (raw_facts-more relation table i raw here))
-    (Adds-more pool c.args.facts.now c.loop-raw.facts c.push.new.self (raw_facts relation (take i table)) (raw_fact relation raw ∷ [])
-    c.loop-raw.invariant
-    (Adds-fact pool c.loop-raw.facts c.push.new.self fact (raw_fact relation raw) c.in_ok-push.ensures.ok
-    c.in_ok-numbered_fact.ensures.reads c.in_ok-numbered_fact.ensures.within))
+pub loop-head-preserved : goal.loop-head-preserved
+loop-head-preserved c =
+    let heads : List Head = c.deref-head-items.result.now in
+    in_turn-more c.args.pool.now c.args.relation c.args.table.now heads c.loop-head.head-index _ c.args.facts.now c.loop-head.facts
+    c.push.new.self c.in_ok-fact.fact (slice_get-get_or heads c.loop-head.head-index _ (omega (arith, c.loop-head-test.true)))
+    c.loop-head.invariant c.in_ok-push.ensures.ok c.in_ok-fact.ensures.reads c.in_ok-fact.ensures.within
 
 pub returns : goal.returns
 returns c =
-    subst (λ table. Adds c.args.pool.now c.args.facts.now c.loop-raw.facts (raw_facts c.args.relation table))
-    (take_all c.loop-raw.raw-index c.args.table.now c.loop-raw-test.false) c.loop-raw.invariant
+    let table : RawTable = c.args.table.now in
+    let heads : List Head = c.deref-head-items.result.now in
+    let all : IsPermutation (map (λ raw. Some raw) table) (map (λ (h : Head). slice_get table h.at) heads) =
+    subst (λ (l : List Head). IsPermutation (map (λ raw. Some raw) table) (map (λ (h : Head). slice_get table h.at) l))
+    (sym c.deref-head-items.ensures.value) c.in_ok-heads.ensures in
+    in_turn-all c.args.pool.now c.args.relation table heads all c.args.facts.now c.loop-head.facts
+    (subst (λ (l : List Head). AddsInTurn c.args.pool.now c.args.relation table l c.args.facts.now c.loop-head.facts)
+    (take_all c.loop-head.head-index heads c.loop-head-test.false) c.loop-head.invariant)

@@ -1,0 +1,7 @@
+-- The texts so far are added.
+use Rattle.std.proofs.Common.{take, Contains}
+use Rattle.exchange_engine.specs.Gathered.{Gains, texts_of}
+use Rattle.exchange_engine.proofs.loading.pool.add_found.Given as goal
+
+abbrev pub invariant-loop-one : goal.invariant-loop-one
+invariant-loop-one l = Gains l.fn.builder l.builder (Contains (take l.one-index (texts_of l.found))) l.one-index
