@@ -7,3 +7,17 @@ mod FiredTerms
 mod FiredSteps
 mod AcceptedLemmas
 mod WorkedRun
+mod StepUnknowns
+mod MeasureLemmas
+mod TurnLemmas
+mod MatchBridge
+mod IndexLemmas
+mod WaitLemmas
+mod ReplaceLemmas
+mod SideLemmas
+mod FitLemmas
+mod CuttingLemmas
+mod FormLemmas
+mod EqualityLemmas
+mod SettleLemmas
+mod EndLemmas

@@ -1,2 +1,9 @@
 pub mod Settling
 pub mod Accepted
+pub mod Settled
+pub mod Measure
+pub mod Search
+pub mod Sides
+pub mod Replacing
+pub mod Cutting
+pub mod Steps
