@@ -1,11 +1,11 @@
 -- What is listed under unknowns.
-use Rattle.std.proofs.Common.{◌≡◌, ◌≢◌, ◌⊎◌, ℕ, ◌+◌, ◌<◌, Bool, true, false, cond, Option, Some, None, List, [], ◌∷◌, ◌++◌, length, map, take, get_or, refl, sym, ap, ◌∙◌, subst, inl, inr, Contains, Vec, Global, nat_eq}
+use Rattle.std.proofs.Common.{◌≡◌, ◌≢◌, ℕ, ◌+◌, ◌<◌, false, Option, Some, List, [], ◌∷◌, ◌++◌, length, map, take, get_or, sym, ap, ◌∙◌, subst, inl, inr, Contains, Vec, Global, nat_eq}
 use Rattle.std.proofs.lemmas.Bool.Decides.{eqb_tells}
 use Rattle.std.proofs.lemmas.List.{map-append, take_more}
 use Rattle.std.proofs.lemmas.List.Elements.{Contains-append_left, Contains-push, Contains-push_cases}
 use Rattle.indexmap.specs.IndexMap.{get}
 use Rattle.rule_core.specs.Terms.{numbered, named, TermOf, constant, unknown, FactOf}
-use Rattle.rule_core.proofs.ListLemmas.{Contains-nil, Contains-cons_cases}
+use Rattle.rule_core.proofs.ListLemmas.{Contains-cons_cases}
 use Rattle.trace_checker.specs.declared.row.Row.{Row}
 use Rattle.trace_checker.specs.declared.holders.Holders.{Holders}
 use Rattle.trace_checker.specs.States.{fact_named, HoldsAlso}
@@ -33,9 +33,9 @@ pub taken : (old new : Holders) (number : ℕ) (list : List Fact)
     → ((other : ℕ) → nat_eq number other ≡ false → get nat_eq new.lists other ≡ get nat_eq old.lists other) → TakesOut old number list new
 taken old new number list gone others other fact is = elim (eqb_tells number other) [
   | inl k ↦ inl (
-      sym k.1,
-      subst (λ (has : Fact → Type 0). has fact) (gone is.0 (ap (get nat_eq old.lists) k.1 ∙ is.1)) is.2,
-    )
+    sym k.1,
+    subst (λ (has : Fact → Type 0). has fact) (gone is.0 (ap (get nat_eq old.lists) k.1 ∙ is.1)) is.2,
+  )
   | inr k ↦ inr (λ e. k.1 (sym e), (is.0, others other k.0 ∙ is.1, is.2))
 ]
 

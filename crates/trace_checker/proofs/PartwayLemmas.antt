@@ -1,12 +1,12 @@
 -- Facts in which an unknown is being replaced, one listed fact after the other.
-use Rattle.std.proofs.Common.{◌≡◌, ◌≢◌, ◌⊎◌, ℕ, ◌+◌, ◌<◌, length, drop, get_or, nat_cmp, Bool, true, false, cond, List, [], ◌∷◌, map, refl, sym, ap, ◌∙◌, subst, inl, inr, true≢false, Contains}
+use Rattle.std.proofs.Common.{◌≡◌, ◌≢◌, ◌⊎◌, ℕ, ◌+◌, ◌<◌, length, drop, get_or, Bool, true, false, cond, List, [], ◌∷◌, map, refl, sym, ap, ◌∙◌, subst, inl, inr, true≢false, Contains}
 use Rattle.std.specs.declared.cmp.Ordering.{Ordering}
 use Rattle.std.specs.declared.cmp.Ordering.TheVariants.{Less, Equal, Greater}
 use Rattle.std.specs.FinMap.{nat_cmp-IsAntisymmetric, slice_cmp-IsAntisymmetric}
 use Rattle.std.specs.List.{list_any}
 use Rattle.std.proofs.lemmas.Bool.Decides.{eqb_tells}
 use Rattle.std.proofs.lemmas.List.{drop_more}
-use Rattle.rule_core.specs.Terms.{numbered, named, Unknown, TermOf, constant, unknown, FactOf}
+use Rattle.rule_core.specs.Terms.{numbered, named, TermOf, constant, unknown, FactOf}
 use Rattle.rule_core.specs.Order.{unknown_cmp}
 use Rattle.rule_core.specs.Homomorphism.{term_image}
 use Rattle.rule_core.specs.Renaming.{HoldTheSame}
@@ -19,7 +19,7 @@ use Rattle.trace_checker.specs.declared.row.Row.{Row}
 use Rattle.trace_checker.specs.declared.holders.Holders.{Holders}
 use Rattle.trace_checker.specs.contracts.row.RowPartialEq.TheImpl.{eq-value as row_eq}
 use Rattle.trace_checker.specs.States.{fact_named, replacement, HoldsAlso}
-use Rattle.trace_checker.specs.Listed.{facts_of, HasNumber, IsListed, TakesOut, AreListed, Moves}
+use Rattle.trace_checker.specs.Listed.{facts_of, HasNumber, TakesOut, AreListed, Moves}
 use Rattle.trace_checker.proofs.FactLemmas.{same_row, equal_rows, row_there, row_found}
 
 abbrev Fact : Type 0
