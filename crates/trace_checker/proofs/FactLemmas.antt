@@ -11,9 +11,9 @@ use Rattle.indexmap.specs.IndexSet.{insert_key}
 use Rattle.rule_core.specs.Terms.{FactOf}
 use Rattle.rule_core.specs.Renaming.{HoldTheSame}
 use Rattle.rule_core.proofs.ListLemmas.{Contains-head, Contains-cons, Contains-from_map}
-use Rattle.trace_checker.specs.declared.facts.Row.{Row}
+use Rattle.trace_checker.specs.declared.row.Row.{Row}
 use Rattle.trace_checker.specs.contracts.name.NamePartialEq.TheImpl.{eq-value as name_eq}
-use Rattle.trace_checker.specs.contracts.facts.RowPartialEq.TheImpl.{eq-value as row_eq}
+use Rattle.trace_checker.specs.contracts.row.RowPartialEq.TheImpl.{eq-value as row_eq}
 use Rattle.trace_checker.specs.States.{fact_named, HoldsAlso}
 use Rattle.trace_checker.proofs.NameLemmas.{same_terms, equal_lists}
 

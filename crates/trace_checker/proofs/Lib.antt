@@ -6,3 +6,5 @@ pub mod SourceLemmas
 pub mod StepLemmas
 pub mod CheckLemmas
 pub mod NewLemmas
+pub mod ListedLemmas
+pub mod PartwayLemmas

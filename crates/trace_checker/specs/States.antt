@@ -12,7 +12,7 @@ use Rattle.failure_trace.specs.Equating.{Replacement, bound_to, AreClashing}
 use Rattle.failure_trace.specs.Trace.{terms_in}
 use Rattle.failure_trace.specs.TraceRun.{Instance, going, clashed, Outcome, goes, stops, Goes as GoesOn, Test, FitsTgd, FitsEgd, AreNew, given_numbers, with_head, left_side, right_side}
 use Rattle.trace_checker.specs.declared.name.Name.{Name}
-use Rattle.trace_checker.specs.declared.facts.Row.{Row}
+use Rattle.trace_checker.specs.declared.row.Row.{Row}
 use Rattle.trace_checker.specs.declared.state.Next.{Next}
 use Rattle.trace_checker.specs.declared.state.Next.TheVariants.{Goes, Clashes, Stops}
 use Rattle.trace_checker.specs.declared.verdict.Verdict.{Verdict}

@@ -1,18 +1,20 @@
 //! The facts of a state.
 
-ghost use Rattle.std.specs.Prelude.{◌≡◌, ◌↔◌, ◌⊎◌, ◌++◌, [], List, IfOk, OnOk, IsTrue, map, All, Contains, length};
-ghost use Rattle.rule_core.specs.Terms.{numbered, FactOf};
-ghost use Rattle.rule_core.specs.Homomorphism.{term_image};
+ghost use Rattle.std.specs.Prelude.{◌≡◌, ◌↔◌, ◌⊎◌, ◌++◌, ◌∷◌, [], ℕ, List, IfOk, OnOk, IsTrue, map, Contains, length};
+ghost use Rattle.rule_core.specs.Terms.{FactOf};
 ghost use Rattle.rule_core.specs.Match.{image};
 ghost use Rattle.rule_core.specs.Renaming.{HoldTheSame};
-ghost use Rattle.failure_trace.specs.Equating.{bound_to, becomes, replaced_fact};
+ghost use Rattle.failure_trace.specs.Equating.{bound_to, replaced_fact};
 ghost use Rattle.failure_trace.specs.Trace.{terms_in};
 ghost use Rattle.failure_trace.specs.TraceRun.{text_cmp};
 ghost use Rattle.failure_trace.specs.Projected.{pool_text};
-ghost use Rattle.trace_checker.specs.Names.{term_named, HasConstant, IsKnown, AreKnown};
+ghost use Rattle.trace_checker.specs.Names.{AreKnown};
 ghost use Rattle.trace_checker.specs.States.{fact_named, replacement, HoldsAlso};
+ghost use Rattle.trace_checker.specs.Listed.{facts_of, AreListed, Moves};
 
-use crate::name::{Name, image_names};
+use crate::holders::Holders;
+use crate::name::Name;
+use crate::row::{Row, image_row, replaced_row};
 use failure_trace::Bound;
 use indexmap::IndexSet;
 use rule_core::Atom;
@@ -20,29 +22,24 @@ use std::alloc::Global;
 use std::marker::Model;
 use term_core::{Memory, Pool};
 
-/// A fact.
-#[derive(PartialEq, Eq, Hash, Drop)]
-pub struct Row<'a> {
-    /// The place of the relation.
-    pub relation: u32,
-    /// A term for each column.
-    pub names: Vec<Name<'a>>,
-}
-
-/// Facts, each once.
+/// Facts, each once. Each is listed under its unknowns.
 #[derive(Drop)]
 pub struct Facts<'a> {
     rows: IndexSet<Row<'a>>,
+    holders: Holders<'a>,
 }
 
 impl<'a> Model for Facts<'a> {
-    ghost use Rattle.std.specs.Prelude.{List, ℕ, map};
+    ghost use Rattle.std.specs.Prelude.{[], List, ℕ, map};
     ghost use Rattle.rule_core.specs.Terms.{FactOf};
     ghost use Rattle.trace_checker.specs.States.{fact_named};
+    ghost use Rattle.trace_checker.specs.Listed.{AreListed};
 
     ghost Value = { List (FactOf (List ℕ)) };
 
     ghost view = { λ f. map fact_named f.rows.keys };
+
+    ghost invariant = { λ f. AreListed (map fact_named f.rows.keys) f.holders [] };
 }
 
 impl<'a> Facts<'a> {
@@ -52,6 +49,7 @@ impl<'a> Facts<'a> {
     {
         Facts {
             rows: IndexSet::new(alloc),
+            holders: Holders::new(alloc),
         }
     }
 
@@ -62,91 +60,93 @@ impl<'a> Facts<'a> {
         self.rows.contains(row)
     }
 
-    /// Adds a fact, where it is not there yet.
-    pub fn add(&mut self, row: Row<'a>) -> Result<(), Memory>
-        ensures { OnOk result (HoldsAlso self.old (fact_named row.entry) self.new) }
+    /// The facts and one more, where it is not there yet.
+    pub fn with(self, alloc: Global, row: Row<'a>) -> Result<Facts<'a>, Memory>
+        ensures { IfOk result (HoldsAlso self.entry (fact_named row.entry)) }
     {
-        self.rows.insert(row)?;
-        Ok(())
+        let Facts {
+            mut rows,
+            mut holders,
+        } = self;
+        add(alloc, &mut rows, &mut holders, row)?;
+        Ok(Facts { rows, holders })
     }
 
-    /// The facts with an unknown replaced.
+    /// The facts with an unknown replaced. It looks at those that are listed under the unknown, and at no other.
     pub fn replaced(self, alloc: Global, gone: u64, by: Name<'a>) -> Result<Facts<'a>, Memory>
         ensures { IfOk result (λ facts.
             HoldTheSame facts (map (replaced_fact text_cmp (replacement gone by.entry)) self.entry)) }
     {
-        let mut facts = Facts::new(alloc);
-        let rows = self.rows.as_slice();
-        for row in rows {
-            facts.add(replaced_row(alloc, row, gone, by)?)?;
+        let Facts {
+            mut rows,
+            mut holders,
+        } = self;
+        let listed = holders.take(alloc, gone);
+        let before = listed.as_slice();
+        for row in before {
+            replace(alloc, &mut rows, &mut holders, row, gone, by)?;
         }
-        Ok(facts)
+        Ok(Facts { rows, holders })
     }
 }
 
-// The fact with an unknown replaced.
-fn replaced_row<'a>(
+// Adds a fact, where it is not there yet, and lists it.
+fn add<'a>(
     alloc: Global,
+    rows: &mut IndexSet<Row<'a>>,
+    holders: &mut Holders<'a>,
+    row: Row<'a>,
+) -> Result<(), Memory>
+    ensures added { OnOk result
+        (HoldsAlso (facts_of rows.old.keys) (fact_named row.entry) (facts_of rows.new.keys)) }
+    ensures listed { OnOk result ((left : List (FactOf (List ℕ)))
+        → AreListed (facts_of rows.old.keys) holders.old left
+        → AreListed (facts_of rows.new.keys) holders.new left) }
+{
+    if rows.contains(&row) {
+        return Ok(());
+    }
+    holders.list(alloc, &row)?;
+    rows.insert(row)?;
+    Ok(())
+}
+
+// Replaces an unknown in a fact, where the fact is still there.
+fn replace<'a>(
+    alloc: Global,
+    rows: &mut IndexSet<Row<'a>>,
+    holders: &mut Holders<'a>,
     row: &Row<'a>,
     gone: u64,
     by: Name<'a>,
-) -> Result<Row<'a>, Memory>
-    ensures { IfOk result (λ after.
-        fact_named after ≡ replaced_fact text_cmp (replacement gone by.entry) (fact_named row.now)) }
+) -> Result<(), Memory>
+    ensures moved { OnOk result (Moves (facts_of rows.old.keys) (fact_named row.now)
+        (replaced_fact text_cmp (replacement gone by.entry) (fact_named row.now)) (facts_of rows.new.keys)) }
+    ensures listed { OnOk result ((left : List (FactOf (List ℕ)))
+        → AreListed (facts_of rows.old.keys) holders.old (fact_named row.now ∷ left)
+        → AreListed (facts_of rows.new.keys) holders.new left) }
 {
-    let before = row.names.as_slice();
-    let mut names = Vec::with_capacity(alloc, before.len())?;
-    for name in before {
-        names.push(replaced_name(name, gone, by))?;
+    if rows.swap_remove(row) {
+        add(alloc, rows, holders, replaced_row(alloc, row, gone, by)?)?;
     }
-    Ok(Row {
-        relation: row.relation,
-        names,
-    })
+    Ok(())
 }
 
-// The term with an unknown replaced.
-fn replaced_name<'a>(name: &Name<'a>, gone: u64, by: Name<'a>) -> Name<'a>
-    ensures { term_named result ≡ term_image (becomes text_cmp (replacement gone by.entry)) (term_named name.now) }
-{
-    match name {
-        Name::Number(number) if *number == gone => by,
-        other => *other,
-    }
-}
-
-/// The fact that an atom becomes under a binding.
-pub fn image_row<'a>(
-    alloc: Global,
-    pool: &'a Pool,
-    binding: &'a [Bound],
-    atom: &Atom,
-) -> Result<Row<'a>, Memory>
-    requires { IsKnown pool.now (length binding.now) atom.now }
-    ensures { IfOk result (λ row.
-        fact_named row ≡ image (pool_text pool.now) (bound_to (terms_in binding.now)) atom.now) }
-{
-    let names = image_names(alloc, pool, binding, atom)?;
-    Ok(Row {
-        relation: atom.relation,
-        names,
-    })
-}
-
-/// Adds the images of atoms under a binding.
-pub fn add_images<'a>(
+/// The facts with the images of atoms under a binding.
+pub fn with_images<'a>(
     alloc: Global,
     pool: &'a Pool,
     binding: &'a [Bound],
     atoms: &[Atom],
-    facts: &mut Facts<'a>,
-) -> Result<(), Memory>
+    facts: Facts<'a>,
+) -> Result<Facts<'a>, Memory>
     requires { AreKnown pool.now (length binding.now) atoms.now }
-    ensures { OnOk result (HoldTheSame facts.new
-        (facts.old ++ map (image (pool_text pool.now) (bound_to (terms_in binding.now))) atoms.now)) }
+    ensures { IfOk result (λ after. HoldTheSame after
+        (facts.entry ++ map (image (pool_text pool.now) (bound_to (terms_in binding.now))) atoms.now)) }
 {
+    let mut after = facts;
     for atom in atoms {
-        facts.add(image_row(alloc, pool, binding, atom)?)?;
+        after = after.with(alloc, image_row(alloc, pool, binding, atom)?)?;
     }
-    Ok(())
+    Ok(after)
 }

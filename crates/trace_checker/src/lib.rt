@@ -5,9 +5,11 @@
 mod binding;
 mod checking;
 mod facts;
+mod holders;
 pub mod laws;
 mod matching;
 mod name;
+mod row;
 mod state;
 mod verdict;
 

@@ -12,8 +12,9 @@ ghost use Rattle.trace_checker.specs.Checked.{source_of};
 ghost use Rattle.trace_checker.specs.Names.{term_named, AreKnown};
 ghost use Rattle.trace_checker.specs.States.{fact_named, NameThem};
 
-use crate::facts::{Facts, Row, image_row};
+use crate::facts::Facts;
 use crate::name::Name;
+use crate::row::{Row, image_row};
 use fact_table::FactTable;
 use failure_trace::Bound;
 use rule_core::Atom;

@@ -10,7 +10,7 @@ ghost use Rattle.trace_checker.specs.States.{IsState, ComesTo, CanFire, CanSettl
 use crate::binding::{
     are_clashing, exists_values, fits_tgd, has_names, replacement_for, side, take_numbers,
 };
-use crate::facts::{Facts, add_images};
+use crate::facts::{Facts, with_images};
 use crate::matching::{matches, matches_at};
 use fact_table::FactTable;
 use failure_trace::{Bound, StepKind, TraceStep, Why};
@@ -132,15 +132,12 @@ fn fire<'a>(
     if !there {
         return Ok(Next::Stops(Why::K3));
     }
-    let State {
-        mut facts,
-        mut used,
-    } = state;
+    let State { facts, mut used } = state;
     let new = take_numbers(&mut used, exists_values(tgd, binding))?;
     if !new {
         return Ok(Next::Stops(Why::K4));
     }
-    add_images(alloc, pool, binding, tgd.head.as_slice(), &mut facts)?;
+    let facts = with_images(alloc, pool, binding, tgd.head.as_slice(), facts)?;
     Ok(Next::Goes(State { facts, used }))
 }
 

@@ -23,8 +23,8 @@ matches_at-requires-clause-known c =
     subst (λ n. AreKnown c.args.pool.now n c.as_slice.result.now) many
     (subst (AreKnown c.args.pool.now (length c.args.tgd.now.vars)) (sym c.as_slice.ensures) c.requires.known.body)
 
-pub add_images-requires : goal.add_images-requires
-add_images-requires c =
+pub with_images-requires : goal.with_images-requires
+with_images-requires c =
     let many = as_many c.args.binding.now c.args.tgd.now.vars (c.fits_tgd.ensures.0 c.if-not-fits_tgd.false).0 in
     subst (λ n. AreKnown c.args.pool.now n c.as_slice-2.result.now) many
     (subst (AreKnown c.args.pool.now (length c.args.tgd.now.vars)) (sym c.as_slice-2.ensures) c.requires.known.head)
@@ -72,11 +72,11 @@ returns c =
     let there = subst (λ u. IsTrue r ↔ Matches name binding c.args.tgd.now.body (snapshot_at source u)) (to_z-of_z w64 c.args.t c.ranges.t)
     (subst (λ atoms. IsTrue r ↔ Matches name binding atoms (snapshot_at source (to_z w64 (of_z w64 c.args.t)))) c.as_slice.ensures c.in_ok-there.ensures) in
     let state : Instance = record { facts = c.state.inside.facts; used = c.state.inside.used.keys } in
-    let after : Instance = record { facts = c.add_images.new.facts; used = c.take_numbers.new.used.keys } in
+    let after : Instance = record { facts = c.in_ok-facts.facts; used = c.take_numbers.new.used.keys } in
     λ held is.
     passes_test (FitsTgd c.args.tgd.now c.args.binding.now) K2 _ (Goes after) (c.fits_tgd.ensures.0 c.if-not-fits_tgd.false)
     (passes_test (Matches name binding c.args.tgd.now.body (snapshot_at source c.args.t)) K3 _ (Goes after) (there.0 c.if-not-there.false)
     (fired name c.args.binding.now c.args.tgd.now state held after (subst (λ s. IsState s held) (sym c.state.view_is) is)
     (subst (λ l. AreNew state.used (numbers_in l)) c.exists_values.ensures (c.in_ok-new.ensures.new c.if-not-new.false))
-    (subst (λ atoms. HoldTheSame after.facts (state.facts ++ map (image name binding) atoms)) c.as_slice-2.ensures c.in_ok-add_images.ensures)
+    (subst (λ atoms. HoldTheSame after.facts (state.facts ++ map (image name binding) atoms)) c.as_slice-2.ensures c.in_ok-facts.ensures)
     (subst (λ l. after.used ≡ state.used ++ numbers_in l) c.exists_values.ensures (c.in_ok-new.ensures.taken c.if-not-new.false))))

@@ -5,7 +5,7 @@ use Rattle.failure_trace.specs.Equating.{becomes}
 use Rattle.failure_trace.specs.TraceRun.{text_cmp}
 use Rattle.trace_checker.specs.Names.{term_named}
 use Rattle.trace_checker.specs.States.{replacement}
-use Rattle.trace_checker.proofs.facts.replaced_row.Given as goal
+use Rattle.trace_checker.proofs.row.replaced_row.Given as goal
 
 abbrev pub invariant-loop-name : goal.invariant-loop-name
 invariant-loop-name l =

@@ -7,7 +7,7 @@ use Rattle.trace_checker.specs.declared.name.Name.{Name}
 use Rattle.trace_checker.specs.Names.{term_named}
 use Rattle.trace_checker.specs.States.{replacement}
 use Rattle.trace_checker.proofs.NameLemmas.{map_pushed_at, map_twice}
-use Rattle.trace_checker.proofs.facts.replaced_row.Goals as goal
+use Rattle.trace_checker.proofs.row.replaced_row.Goals as goal
 
 pub loop-name-preserved : goal.loop-name-preserved
 loop-name-preserved c =
