@@ -29,8 +29,9 @@ pub struct Row<'a> {
 pub fn copied_row<'a>(alloc: Global, row: &Row<'a>) -> Result<Row<'a>, Memory>
     ensures { IfOk result (λ copy. fact_named copy ≡ fact_named row.now) }
 {
-    let mut names = Vec::new(alloc);
-    names.extend_from_slice(row.names.as_slice())?;
+    let before = row.names.as_slice();
+    let mut names = Vec::with_capacity(alloc, before.len())?;
+    names.extend_from_slice(before)?;
     Ok(Row {
         relation: row.relation,
         names,
