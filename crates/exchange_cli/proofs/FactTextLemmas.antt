@@ -16,11 +16,11 @@ use Rattle.exchange_engine.specs.Loading.{RawTable, text_in, as_text, AreFactsOf
 -- snapshots
 
 -- what a row becomes, over its span
-abbrev restamped : {X Y : Type 0} → (X → Y) → StampedOf X → StampedOf Y
+abbrev pub restamped : {X Y : Type 0} → (X → Y) → StampedOf X → StampedOf Y
 restamped f e = record { row = f e.row; span = e.span }
 
 -- what becomes of a snapshot is the snapshot of what becomes of the list
-map-snapshot_at : {X Y : Type 0} (f : X → Y) (list : List (StampedOf X)) (t : ℤ)
+pub map-snapshot_at : {X Y : Type 0} (f : X → Y) (list : List (StampedOf X)) (t : ℤ)
     → map f (snapshot_at list t) ≡ snapshot_at (map (restamped f) list) t
 map-snapshot_at f [] t = refl
 map-snapshot_at {X} {Y} f (e ∷ list) t =
@@ -45,7 +45,7 @@ HoldWhatIsCovered = (stamped : List (StampedOf (FactOf (List ℕ)))) (fact : Fac
     → Contains (snapshot_at stamped t) fact ↔ Covers stamped fact t
 
 -- lists with the same entries hold the same at each instant
-snapshots_same : HoldWhatIsCovered → (a b : List (StampedOf (FactOf (List ℕ))))
+pub snapshots_same : HoldWhatIsCovered → (a b : List (StampedOf (FactOf (List ℕ))))
     → ((e : StampedOf (FactOf (List ℕ))) → Contains a e ↔ Contains b e)
     → (t : ℤ) → HoldTheSame (snapshot_at a t) (snapshot_at b t)
 snapshots_same covers a b same t fact = (
@@ -145,7 +145,7 @@ module _ {X C D : Type 0} (g : X → TermOf C) (h : TermOf C → TermOf D) (k : 
 
 module _ {X : Type 0} (g : X → TermOf (List ℕ)) where
   -- a term of a fact of tables is what a term of a row becomes
-  term_from : (relation : ℕ) (tables : List (List (StampedOf (List X)))) (stamped : StampedOf (FactOf (List ℕ)))
+  pub term_from : (relation : ℕ) (tables : List (List (StampedOf (List X)))) (stamped : StampedOf (FactOf (List ℕ)))
       → Contains (facts_from relation (map (retold g) tables)) stamped → (y : TermOf (List ℕ)) → Contains stamped.row.terms y
       → (table : List (StampedOf (List X))) × Contains tables table
       × (e : StampedOf (List X)) × Contains table e × (x : X) × Contains e.row x × (g x ≡ y)

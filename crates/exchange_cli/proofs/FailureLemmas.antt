@@ -1,6 +1,7 @@
 -- Something is the first failure in one way only, faults of the shelf apart.
-use Rattle.std.proofs.Common.{◌≡◌, ℕ, ◌-◌, List, [], ◌∷◌, refl, sym, ap, ◌∙◌, subst, inl, inr}
-use Rattle.std.specs.declared.option.Option.TheVariants.{Some}
+use Rattle.std.proofs.Common.{◌≡◌, ℕ, ◌-◌, List, [], ◌∷◌, ◌++◌, refl, sym, ap, ◌∙◌, subst, inl, inr}
+use Rattle.std.specs.declared.option.Option.{Option}
+use Rattle.std.specs.declared.option.Option.TheVariants.{None, Some}
 use Rattle.std.specs.FinMap.{get}
 use Rattle.shelf_core.specs.Held.{Held}
 use Rattle.shelf_core.specs.Fetching.{Shows, fetched_of}
@@ -11,12 +12,14 @@ use Rattle.mapping_core.specs.Mapping.{Meaning as MappingValue}
 use Rattle.mapping_core.specs.Reading.{IsFirstFault as IsMappingFault}
 use Rattle.temporal_csv.specs.Table.{IsFirstFault as IsTableFault}
 use Rattle.temporal_csv.specs.declared.fault.TableFault.{TableFault}
-use Rattle.exchange_cli.specs.Words.{Command, origin_of}
+use Rattle.failure_trace.specs.declared.fault.TraceFault.{TraceFault}
+use Rattle.failure_trace.specs.TraceText.{Fails}
+use Rattle.exchange_cli.specs.Words.{Command, origin_of, trace_of}
 use Rattle.exchange_cli.specs.Names.{table_name}
-use Rattle.exchange_cli.specs.Work.{Fetch, AreTold, StopsAt, StopsAtTable, RefusesMapping, RefusesTable, FailsFirst, mapping_limit, tables_limit}
+use Rattle.exchange_cli.specs.Work.{Fetch, AreTold, StopsAt, StopsAtTable, StopsAtTrace, RefusesMapping, RefusesTable, RefusesTrace, FailsInOrigin, FailsFirst, mapping_limit, tables_limit, trace_limit}
 use Rattle.exchange_cli.specs.declared.ending.Ending.{Ending}
-use Rattle.exchange_cli.specs.declared.ending.Ending.TheVariants.{Missing, TooLong, Mapping, NotBuilt, Table, Read}
-use Rattle.exchange_cli.proofs.ReadLemmas.{OneMapping, MappingOrFault, TableOrFault, IsReadFault, one_bytes, first_told, later_told, answer_is, given_is, only_shelf_stops, taken_is_not_refused, table_is_not_refused, one_mapping_read, same_size}
+use Rattle.exchange_cli.specs.declared.ending.Ending.TheVariants.{Missing, TooLong, Mapping, Table, Trace, Read}
+use Rattle.exchange_cli.proofs.ReadLemmas.{OneMapping, MappingOrFault, TableOrFault, IsReadFault, one_bytes, first_told, later_told, earlier_told, last_told, answer_is, given_is, only_shelf_stops, only_shelf_fails_in_origin, mapping_is_not_refused, table_is_not_refused, one_mapping_read, same_size}
 
 -- a text has one first fault
 abbrev pub OneMappingFault : Type 0
@@ -27,18 +30,18 @@ abbrev pub OneTableFault : Type 0
 OneTableFault = (columns : List (List ℕ)) (bytes : List ℕ) (a b : TableFault)
     → IsTableFault columns bytes a → IsTableFault columns bytes b → a ≡ b
 
+-- a trace's text has one first fault
+abbrev pub OneTraceFault : Type 0
+OneTraceFault = (text : List ℕ) (a b : TraceFault) → Fails text a → Fails text b → a ≡ b
+
 -- bytes are refused in one way
 abbrev pub IsOneRefusal : (List ℕ → Ending → Type 0) → Type 0
 IsOneRefusal HasFault = (bytes : List ℕ) (a b : Ending) → HasFault bytes a → HasFault bytes b → a ≡ b
 
-one_fault_of_mapping : OneMapping → OneMappingFault → MappingOrFault → (command : Command) → IsOneRefusal (RefusesMapping command)
-one_fault_of_mapping one one_fault sound command bytes (Mapping a) (Mapping b) p q = ap Mapping (one_fault bytes a b p q)
-one_fault_of_mapping one one_fault sound command bytes (Mapping a) NotBuilt p q = absurd (sound bytes q.0 a q.1 p)
-one_fault_of_mapping one one_fault sound command bytes NotBuilt (Mapping b) p q = absurd (sound bytes p.0 b p.1 q)
-one_fault_of_mapping one one_fault sound command bytes NotBuilt NotBuilt p q = refl
-one_fault_of_mapping one one_fault sound command bytes (Mapping a) other p q = absurd q
-one_fault_of_mapping one one_fault sound command bytes NotBuilt other p q = absurd q
-one_fault_of_mapping one one_fault sound command bytes other b p q = absurd p
+one_fault_of_mapping : OneMappingFault → IsOneRefusal RefusesMapping
+one_fault_of_mapping one bytes (Mapping a) (Mapping b) p q = ap Mapping (one bytes a b p q)
+one_fault_of_mapping one bytes (Mapping a) other p q = absurd q
+one_fault_of_mapping one bytes other b p q = absurd p
 
 one_fault_of_table : OneTableFault → (prefix : List ℕ) (relation : Relation) → IsOneRefusal (RefusesTable prefix relation)
 one_fault_of_table one prefix relation bytes (Table a first) (Table b second) p q =
@@ -47,6 +50,11 @@ one_fault_of_table one prefix relation bytes (Table a first) (Table b second) p 
     λ i. Table (names i) (faults i)
 one_fault_of_table one prefix relation bytes (Table a first) other p q = absurd q
 one_fault_of_table one prefix relation bytes other b p q = absurd p
+
+one_fault_of_trace : OneTraceFault → IsOneRefusal RefusesTrace
+one_fault_of_trace one bytes (Trace a) (Trace b) p q = let same : a ≡ b = one bytes a b p q in λ i. Trace (same i)
+one_fault_of_trace one bytes (Trace a) other p q = absurd q
+one_fault_of_trace one bytes other b p q = absurd p
 
 -- at one fetch
 
@@ -106,7 +114,7 @@ module _ (held : Held) (HasFault : List ℕ → Ending → Type 0) (one : IsOneR
 -- among the tables, and in all
 
 module _ (one_mapping : OneMapping) (one_fault : OneMappingFault) (sound : MappingOrFault) (one_table_fault : OneTableFault)
-    (clean : TableOrFault) (held : Held) where
+    (clean : TableOrFault) (one_trace_fault : OneTraceFault) (held : Held) where
   one_table_stop : (prefix : List ℕ) (left : ℕ) (relations : List Relation) (f g : List Fetch) (a b : Ending)
       → AreTold (Some held) f → AreTold (Some held) g
       → StopsAtTable f prefix left relations a → StopsAtTable g prefix left relations b → ¬ IsReadFault a → ¬ IsReadFault b → a ≡ b
@@ -133,26 +141,56 @@ module _ (one_mapping : OneMapping) (one_fault : OneMappingFault) (sound : Mappi
       one_table_stop prefix (left - size) rs xs ys a b (later_told held f x xs all first) (later_told held g y ys every second) more
       (subst (λ n. StopsAtTable ys prefix (left - n) rs b) sizes rest) sure certain
 
-  -- two first failures that are no faults of the shelf are one
-  pub one_first_refusal : (command : Command) (f g : List Fetch) (a b : Ending) → AreTold (Some held) f → AreTold (Some held) g
-      → FailsFirst command f a → FailsFirst command g b → ¬ IsReadFault a → ¬ IsReadFault b → a ≡ b
-  one_first_refusal command f g a b first second (x, xs, all, inl here) (y, ys, every, inl there) sure certain =
-      one_stop held (RefusesMapping command) (one_fault_of_mapping one_mapping one_fault sound command) x y (origin_of command).mapping
+  -- at the mapping and the tables
+  one_refusal_in_origin : (command : Command) (f g : List Fetch) (a b : Ending) → AreTold (Some held) f → AreTold (Some held) g
+      → FailsInOrigin command f a → FailsInOrigin command g b → ¬ IsReadFault a → ¬ IsReadFault b → a ≡ b
+  one_refusal_in_origin command f g a b first second (x, xs, all, inl here) (y, ys, every, inl there) sure certain =
+      one_stop held RefusesMapping (one_fault_of_mapping one_fault) x y (origin_of command).mapping
       mapping_limit (first_told held f x xs all first) (first_told held g y ys every second) a b here.1 there.1 sure certain
-  one_first_refusal command f g a b first second (x, xs, all, inl here) (y, ys, every, inr (mapping, read, takes, stops)) sure certain =
-      absurd (sure (only_shelf_stops held (RefusesMapping command) x (origin_of command).mapping mapping_limit read.0 a
+  one_refusal_in_origin command f g a b first second (x, xs, all, inl here) (y, ys, every, inr (mapping, read, stops)) sure certain =
+      absurd (sure (only_shelf_stops held RefusesMapping x (origin_of command).mapping mapping_limit read.0 a
       (first_told held f x xs all first)
       (given_is held y (origin_of command).mapping mapping_limit read.0 (first_told held g y ys every second) read.1)
-      (taken_is_not_refused one_mapping sound command read.0 mapping read.2 takes) here.1))
-  one_first_refusal command f g a b first second (x, xs, all, inr (mapping, read, takes, stops)) (y, ys, every, inl there) sure certain =
-      absurd (certain (only_shelf_stops held (RefusesMapping command) y (origin_of command).mapping mapping_limit read.0 b
+      (mapping_is_not_refused sound read.0 mapping read.2) here.1))
+  one_refusal_in_origin command f g a b first second (x, xs, all, inr (mapping, read, stops)) (y, ys, every, inl there) sure certain =
+      absurd (certain (only_shelf_stops held RefusesMapping y (origin_of command).mapping mapping_limit read.0 b
       (first_told held g y ys every second)
       (given_is held x (origin_of command).mapping mapping_limit read.0 (first_told held f x xs all first) read.1)
-      (taken_is_not_refused one_mapping sound command read.0 mapping read.2 takes) there.1))
-  one_first_refusal command f g a b first second (x, xs, all, inr (mapping, read, takes, stops))
-      (y, ys, every, inr (other, same, taken, rest)) sure certain =
+      (mapping_is_not_refused sound read.0 mapping read.2) there.1))
+  one_refusal_in_origin command f g a b first second (x, xs, all, inr (mapping, read, stops))
+      (y, ys, every, inr (other, same, rest)) sure certain =
       let mappings = one_mapping_read held one_mapping y x (origin_of command) other mapping (first_told held g y ys every second)
       (first_told held f x xs all first) same read in
       one_table_stop (origin_of command).source tables_limit mapping.rules.sources xs ys a b (later_told held f x xs all first)
       (later_told held g y ys every second) stops
       (subst (λ (m : MappingValue). StopsAtTable ys (origin_of command).source tables_limit m.rules.sources b) mappings rest) sure certain
+
+  -- at the trace
+  one_trace_stop : (named : Option (List ℕ)) (x y : Fetch) (a b : Ending) → Shows (Some held) x.name x.limit x.answer
+      → Shows (Some held) y.name y.limit y.answer
+      → StopsAtTrace named x a → StopsAtTrace named y b → ¬ IsReadFault a → ¬ IsReadFault b → a ≡ b
+  one_trace_stop None x y a b first second p q sure certain = absurd p
+  one_trace_stop (Some name) x y a b first second p q sure certain =
+      one_stop held RefusesTrace (one_fault_of_trace one_trace_fault) x y name trace_limit first second a b p q sure certain
+
+  -- the last of fetches that are told
+  end_told : (fetches earlier : List Fetch) (fetch : Fetch) → fetches ≡ earlier ++ fetch ∷ [] → AreTold (Some held) fetches
+      → Shows (Some held) fetch.name fetch.limit fetch.answer
+  end_told fetches earlier fetch all told =
+      first_told held (fetch ∷ []) fetch [] refl (last_told held fetches earlier (fetch ∷ []) all told)
+
+  -- two first failures that are no faults of the shelf are one
+  pub one_first_refusal : (command : Command) (f g : List Fetch) (a b : Ending) → AreTold (Some held) f → AreTold (Some held) g
+      → FailsFirst command f a → FailsFirst command g b → ¬ IsReadFault a → ¬ IsReadFault b → a ≡ b
+  one_first_refusal command f g a b first second (inl p) (inl q) sure certain =
+      one_refusal_in_origin command f g a b first second p q sure certain
+  one_first_refusal command f g a b first second (inl p) (inr (earlier, fetch, mapping, tables, all, read, stops)) sure certain =
+      absurd (sure (only_shelf_fails_in_origin held one_mapping sound clean command earlier f mapping tables a
+      (earlier_told held g earlier (fetch ∷ []) all second) first read p))
+  one_first_refusal command f g a b first second (inr (earlier, fetch, mapping, tables, all, read, stops)) (inl q) sure certain =
+      absurd (certain (only_shelf_fails_in_origin held one_mapping sound clean command earlier g mapping tables b
+      (earlier_told held f earlier (fetch ∷ []) all first) second read q))
+  one_first_refusal command f g a b first second (inr (earlier, fetch, mapping, tables, all, read, stops))
+      (inr (before, last, meaning, facts, whole, reads, ends)) sure certain =
+      one_trace_stop (trace_of command) fetch last a b (end_told f earlier fetch all first) (end_told g before last whole second) stops ends
+      sure certain

@@ -1,7 +1,7 @@
 -- What a shelf holds after files were stored in turn, and the names of the files of a product.
 use Rattle.std.proofs.Common.{◌≡◌, ◌≢◌, ℕ, ◌+◌, ◌<◌, List, [], ◌∷◌, ◌++◌, length, get_or, take, drop, zero, suc, refl, sym, ap, ◌∙◌, subst, arith, codes, map, inl, inr, All, AllPairs, reverse}
 use Rattle.std.proofs.lemmas.List.{append_cancel_left, append_cancel_right, reverse-append}
-use Rattle.std.proofs.lemmas.List.Elements.{All-nil, All-cons, All-head, All-tail, All-contains, Contains-append_right, Contains-append_cases}
+use Rattle.std.proofs.lemmas.List.Elements.{All-nil, All-cons, All-head, All-tail, All-contains, All-map, Contains-append_right, Contains-append_cases}
 use Rattle.std.proofs.lemmas.List.Kept.{AllPairs-cons}
 use Rattle.std.proofs.lemmas.List.Quantifiers.{all_pairs_push}
 use Rattle.std.proofs.lemmas.List.{take_more}
@@ -16,14 +16,15 @@ use Rattle.rule_core.specs.Validity.{IsValid, IsRelation}
 use Rattle.rule_core.specs.Names.{IsName, IsNameByte}
 use Rattle.rule_core.specs.declared.rules.Query.{Query}
 use Rattle.rule_core.proofs.ListLemmas as kept
-use Rattle.rule_core.proofs.ListLemmas.{Contains-head, Contains-from_map, AllPairs-head, AllPairs-tail, AllPairs-map, AllPairs-weaker}
+use Rattle.rule_core.proofs.ListLemmas.{Contains-head, Contains-from_map, AllPairs-head, AllPairs-tail, AllPairs-nil, AllPairs-map, AllPairs-from_map, All-from_map, AllPairs-weaker}
 use Rattle.exchange_cli.specs.Answers.{answer_relation}
 use Rattle.exchange_cli.specs.Run.{Device, with_files, StoresUpTo}
-use Rattle.exchange_cli.specs.Words.{Command, Exchange, Normalise}
+use Rattle.exchange_cli.specs.Words.{Command, Exchange, Normalise, Snapshot, Check}
 use Rattle.exchange_cli.specs.Names.{table_name, verdict_name}
 use Rattle.exchange_cli.specs.Inputs.{Inputs}
 use Rattle.exchange_cli.specs.Target.{TargetTable, AreTableFiles}
 use Rattle.exchange_cli.specs.Pieces.{piece_tables}
+use Rattle.exchange_cli.specs.Snapshot.{BareTable, AreBareFiles}
 use Rattle.exchange_cli.specs.Files.{HaveDistinctNames}
 use Rattle.exchange_cli.specs.Product.{Makes}
 use Rattle.exchange_cli.specs.declared.file.FileOut.{FileOut}
@@ -161,10 +162,38 @@ files_join prefix (r ∷ rs) qs [] gs ts us are more = absurd are
 files_join prefix (r ∷ rs) qs (f ∷ fs) gs [] us are more = absurd are
 files_join prefix (r ∷ rs) qs (f ∷ fs) gs (t ∷ ts) us are more = (are.0, files_join prefix rs qs fs gs ts us are.1 more)
 
+-- files of bare tables have the names of their relations
+bare_names : (prefix : List ℕ) (relations : List Relation) (files : List FileOut) (tables : List BareTable)
+    → AreBareFiles prefix relations files tables
+    → map (λ (f : FileOut). f.name) files ≡ map (λ (r : Relation). table_name prefix r.name) relations
+bare_names prefix [] files tables are = ap (map (λ (f : FileOut). f.name)) are.0
+bare_names prefix (r ∷ rs) [] tables are = absurd are
+bare_names prefix (r ∷ rs) (f ∷ fs) [] are = absurd are
+bare_names prefix (r ∷ rs) (f ∷ fs) (rows ∷ more) are = λ i. are.0.name i ∷ bare_names prefix rs fs more are.1 i
+
+-- and so distinct ones, of which none is the verdict
+distinct_bare : (prefix : List ℕ) (relations : List Relation) (files : List FileOut) (tables : List BareTable) (verdict : FileOut)
+    → AllPairs OtherName relations → AreBareFiles prefix relations files tables → verdict.name ≡ verdict_name prefix
+    → HaveDistinctNames (files ++ verdict ∷ [])
+distinct_bare prefix relations files tables verdict apart are named =
+    let names = sym (bare_names prefix relations files tables are) in
+    let differ : AllPairs (λ (a b : List ℕ). a ≢ b) (map (λ (r : Relation). table_name prefix r.name) relations) =
+    AllPairs-map (λ a b. a ≢ b) (λ (r : Relation). table_name prefix r.name) relations
+    (AllPairs-weaker OtherName (λ a b. table_name prefix a.name ≢ table_name prefix b.name)
+    (λ a b other same. other (table_names prefix a.name b.name same)) relations apart) in
+    let none : All (λ (n : List ℕ). n ≢ verdict.name) (map (λ (r : Relation). table_name prefix r.name) relations) =
+    All-map (λ (n : List ℕ). n ≢ verdict.name) (λ (r : Relation). table_name prefix r.name) relations
+    (λ k d l same. not_verdict prefix (get_or relations k d).name (same ∙ named)) in
+    all_pairs_push (λ (a b : FileOut). a.name ≢ b.name) files verdict
+    (AllPairs-from_map (λ (a b : List ℕ). a ≢ b) (λ (f : FileOut). f.name) files (subst (AllPairs (λ (a b : List ℕ). a ≢ b)) names differ))
+    (All-from_map (λ (n : List ℕ). n ≢ verdict.name) (λ (f : FileOut). f.name) files (subst (All (λ (n : List ℕ). n ≢ verdict.name)) names none))
+
 -- the files of a product have distinct names
 pub distinct_files : (command : Command) (inputs : Inputs) (product : Product) → IsValid inputs.mapping.rules
     → Makes command inputs product → HaveDistinctNames product.files
-distinct_files (Exchange origin target) inputs product valid makes =
+distinct_files (Exchange origin target) inputs product valid (inr is) =
+    rw is.files (λ i j d lt within. absurd (omega arith))
+distinct_files (Exchange origin target) inputs product valid (inl makes) =
     let groups = makes.groups in
     let tables = makes.each.tables in
     let answers = makes.each.answers in
@@ -183,3 +212,10 @@ distinct_files (Normalise origin out) inputs product valid makes =
     let sources = inputs.mapping.rules.sources in
     distinct_tables out sources product.files (piece_tables pieces.loaded.pool pieces.normalised 0 sources) valid.relations.source_names
     pieces.each
+distinct_files (Snapshot origin t out) inputs product valid (inr is) =
+    rw is.files (λ i j d lt within. absurd (omega arith))
+distinct_files (Snapshot origin t out) inputs product valid (inl makes) =
+    rw makes.files (distinct_bare out inputs.mapping.rules.targets makes.groups.tables makes.each.tables makes.groups.verdict
+    valid.relations.target_names makes.each.each makes.each.verdict.name)
+distinct_files (Check origin trace) inputs product valid makes =
+    rw makes.files (AllPairs-nil (λ (a b : FileOut). a.name ≢ b.name))

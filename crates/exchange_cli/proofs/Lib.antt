@@ -7,8 +7,15 @@ pub mod FactTextLemmas
 pub mod NameLemmas
 pub mod TargetLemmas
 pub mod CertainLemmas
+pub mod TraceTextLemmas
+pub mod AcceptedLemmas
+pub mod BehindLemmas
+pub mod OutcomeLemmas
+pub mod SnapshotLemmas
+pub mod JudgedLemmas
 pub mod SizeLemmas
 pub mod StepLemmas
+pub mod TraceStepLemmas
 pub mod ReadLemmas
 pub mod FailureLemmas
 pub mod SayLemmas

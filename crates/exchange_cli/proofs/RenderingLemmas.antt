@@ -21,7 +21,7 @@ abbrev pub AreWide : Relation → TermTable → Type 0
 AreWide relation table = All (λ e. length e.row ≡ length relation.columns) table
 
 module _ (relations : List Relation) (tables : List TermTable) (are : AreTargetTables relations tables) where
-  same_size : length relations ≡ length tables
+  pub same_size : length relations ≡ length tables
   same_size = sym (AllZip-long AreWide relations tables are)
 
   -- a table has a relation
@@ -59,7 +59,7 @@ module _ (relations : List Relation) (tables : List TermTable) (are : AreTargetT
 
 module _ (pool : List (List ℕ)) (nulls : List HeldUnknown) where
   -- a row as it is stored
-  abbrev stored_entry : StampedOf (List Term) → StampedOf (List (TermOf (List ℕ)))
+  abbrev pub stored_entry : StampedOf (List Term) → StampedOf (List (TermOf (List ℕ)))
   stored_entry e = record { row = map (stored_term pool nulls) e.row; span = e.span }
 
   -- rows that are as wide as their relation make records that are as wide as the header
@@ -76,7 +76,7 @@ module _ (pool : List (List ℕ)) (nulls : List HeldUnknown) where
       one e same = simp (length-append, length-map) (ap (λ n. n + 2) same)
 
   -- a number is a place, counted from 1
-  numbered_from_one : (term : Term) → IsNumberedFromOne (stored_term pool nulls term)
+  pub numbered_from_one : (term : Term) → IsNumberedFromOne (stored_term pool nulls term)
   numbered_from_one (Const c) = tt
   numbered_from_one (Null u) = omega arith
 

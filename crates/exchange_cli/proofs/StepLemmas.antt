@@ -13,16 +13,15 @@ use Rattle.rule_core.specs.declared.rules.Relation.{Relation}
 use Rattle.mapping_core.specs.Mapping.{Meaning as MappingValue}
 use Rattle.exchange_cli.specs.Words.{Command, origin_of}
 use Rattle.exchange_cli.specs.Names.{table_name}
-use Rattle.exchange_cli.specs.Built.{Takes}
 use Rattle.exchange_cli.specs.Inputs.{SourceTable}
 use Rattle.exchange_cli.specs.Work.{Fetch, fetch_of, AreTold, ReadsTables, Stops, StopsAtTable, RefusesMapping, RefusesTable, mapping_limit, tables_limit}
 use Rattle.exchange_cli.specs.Run.{Device, device}
-use Rattle.exchange_cli.specs.Steps.{Keeps, AnswersWith, AnswersMapping, AnswersTable, AnswersTables, AnswersAll, FailsToFetch, FailsToRead, HasMappingFault, IsCounted, StopsInTables, StopsEarly}
+use Rattle.exchange_cli.specs.Steps.{Keeps, AnswersWith, AnswersMapping, AnswersTable, AnswersTables, AnswersOrigin, FailsToFetch, FailsToRead, IsCounted, StopsInTables, StopsInOrigin}
 use Rattle.exchange_cli.specs.declared.ending.Ending.{Ending}
-use Rattle.exchange_cli.specs.declared.ending.Ending.TheVariants.{Done, Words, Missing, TooLong, Mapping, NotBuilt, Table, Read, Write, Output, Memory}
+use Rattle.exchange_cli.specs.declared.ending.Ending.TheVariants.{Missing, TooLong, Read, Memory}
 
 -- the answer is what the shelf holds, where it tells
-abbrev Is : Option Held → Fetch → Type 0
+abbrev pub Is : Option Held → Fetch → Type 0
 Is told fetch = Shows told fetch.name fetch.limit fetch.answer
 
 -- one fetch that is told
@@ -78,28 +77,9 @@ fault_stops content faults after name bytes limit HasFault ending answers stops 
 
 -- the mapping
 
--- what stops for one cause stops for a wider one
-stops_weaker : (P Q : List ℕ → Ending → Type 0) → ((bytes : List ℕ) (ending : Ending) → P bytes ending → Q bytes ending)
-    → (fetch : Fetch) (ending : Ending) → Stops fetch P ending → Stops fetch Q ending
-stops_weaker P Q weaker fetch (Missing name) stops = stops
-stops_weaker P Q weaker fetch (TooLong name) stops = stops
-stops_weaker P Q weaker fetch (Read name) stops = stops
-stops_weaker P Q weaker fetch (Mapping fault) stops = (stops.0, stops.1, weaker stops.0 (Mapping fault) stops.2)
-stops_weaker P Q weaker fetch NotBuilt stops = (stops.0, stops.1, weaker stops.0 NotBuilt stops.2)
-stops_weaker P Q weaker fetch (Table name fault) stops = (stops.0, stops.1, weaker stops.0 (Table name fault) stops.2)
-stops_weaker P Q weaker fetch (Done finding) stops = (stops.0, stops.1, weaker stops.0 (Done finding) stops.2)
-stops_weaker P Q weaker fetch Words stops = (stops.0, stops.1, weaker stops.0 Words stops.2)
-stops_weaker P Q weaker fetch (Write name) stops = (stops.0, stops.1, weaker stops.0 (Write name) stops.2)
-stops_weaker P Q weaker fetch Output stops = (stops.0, stops.1, weaker stops.0 Output stops.2)
-stops_weaker P Q weaker fetch Memory stops = (stops.0, stops.1, weaker stops.0 Memory stops.2)
-
-fault_refuses : (command : Command) (bytes : List ℕ) (ending : Ending) → HasMappingFault bytes ending → RefusesMapping command bytes ending
-fault_refuses command bytes (Mapping fault) faulty = faulty
-fault_refuses command bytes other faulty = absurd faulty
-
 -- a mapping that can't be read is where the run stops
 pub mapping_stops : (before after : Device Held) (command : Command) (name : List ℕ) (ending : Ending) → name ≡ (origin_of command).mapping
-    → FailsToRead before after name mapping_limit HasMappingFault ending → StopsEarly before after command ending
+    → FailsToRead before after name mapping_limit RefusesMapping ending → StopsInOrigin before after command ending
 mapping_stops before after command name ending named (inl memory) = inl memory
 mapping_stops before after command name ending named (inr (fetch, shows, at, counted)) =
     inr (
@@ -109,42 +89,18 @@ mapping_stops before after command name ending named (inr (fetch, shows, at, cou
         fetch,
         [],
         refl,
-        inl (
-          refl,
-          record {
-            named = at.named ∙ named;
-            limited = at.limited;
-            stops = stops_weaker HasMappingFault (RefusesMapping command) (fault_refuses command) fetch ending at.stops;
-          },
-        ),
+        inl (refl, record { named = at.named ∙ named; limited = at.limited; stops = at.stops }),
       ),
       counted,
     )
 
--- so is a mapping of a form that the command doesn't take
-pub not_built_stops : (before after : Device Held) (command : Command) (name : List ℕ) (mapping : MappingValue)
-    → name ≡ (origin_of command).mapping → AnswersMapping before.content name mapping_limit mapping → ¬ (Takes command mapping.rules)
-    → StopsEarly before after command NotBuilt
-not_built_stops before after command name mapping named (bytes, answers, is) other =
-    inr (
-      fetch_of name mapping_limit (Ok (fetched.Bytes bytes)) ∷ [],
-      one_told before.content (fetch_of name mapping_limit (Ok (fetched.Bytes bytes))) answers,
-      (
-        fetch_of name mapping_limit (Ok (fetched.Bytes bytes)),
-        [],
-        refl,
-        inl (refl, record { named = named; limited = refl; stops = (bytes, refl, (mapping, is, other)) }),
-      ),
-      λ n e. absurd cc,
-    )
-
--- so is a table behind a mapping that is taken
+-- so is a table behind a mapping that is read
 pub tables_stop : (before after : Device Held) (command : Command) (name prefix : List ℕ) (mapping : MappingValue) (ending : Ending)
     → name ≡ (origin_of command).mapping → prefix ≡ (origin_of command).source
-    → AnswersMapping before.content name mapping_limit mapping → Takes command mapping.rules
-    → StopsInTables before after prefix mapping.rules.sources ending → StopsEarly before after command ending
-tables_stop before after command name prefix mapping ending named below (bytes, answers, is) takes (inl memory) = inl memory
-tables_stop before after command name prefix mapping ending named below (bytes, answers, is) takes (inr (fetches, told, stops, counted)) =
+    → AnswersMapping before.content name mapping_limit mapping
+    → StopsInTables before after prefix mapping.rules.sources ending → StopsInOrigin before after command ending
+tables_stop before after command name prefix mapping ending named below (bytes, answers, is) (inl memory) = inl memory
+tables_stop before after command name prefix mapping ending named below (bytes, answers, is) (inr (fetches, told, stops, counted)) =
     let fetch = fetch_of name mapping_limit (Ok (fetched.Bytes bytes)) in
     inr (
       fetch ∷ fetches,
@@ -156,31 +112,27 @@ tables_stop before after command name prefix mapping ending named below (bytes, 
         inr (
           mapping,
           (bytes, (λ i. fetch_of (named i) mapping_limit (Ok (fetched.Bytes bytes))), is),
-          takes,
           subst (λ p. StopsAtTable fetches p tables_limit mapping.rules.sources ending) below stops,
         ),
       ),
       counted,
     )
 
--- all that the command needs was read
-pub reads_all : (told : Option Held) (command : Command) (name prefix : List ℕ) (mapping : MappingValue) (tables : List SourceTable)
+-- the mapping and its tables were read
+pub reads_origin : (told : Option Held) (command : Command) (name prefix : List ℕ) (mapping : MappingValue) (tables : List SourceTable)
     → name ≡ (origin_of command).mapping → prefix ≡ (origin_of command).source
-    → AnswersMapping told name mapping_limit mapping → Takes command mapping.rules → AnswersTables told prefix mapping.rules.sources tables
-    → AnswersAll told command (record { mapping = mapping; tables = tables })
-reads_all told command name prefix mapping tables named below (bytes, answers, is) takes (fetches, each, reads) =
+    → AnswersMapping told name mapping_limit mapping → AnswersTables told prefix mapping.rules.sources tables
+    → AnswersOrigin told command mapping tables
+reads_origin told command name prefix mapping tables named below (bytes, answers, is) (fetches, each, reads) =
     let fetch = fetch_of name mapping_limit (Ok (fetched.Bytes bytes)) in (
       fetch ∷ fetches,
       All-cons (Is told) fetch fetches answers each,
       record {
-        read = record {
-          first = fetch;
-          later = fetches;
-          all = refl;
-          mapping = (bytes, (λ i. fetch_of (named i) mapping_limit (Ok (fetched.Bytes bytes))), is);
-          tables = subst (λ p. ReadsTables fetches p tables_limit mapping.rules.sources tables) below reads;
-        };
-        taken = takes;
+        first = fetch;
+        later = fetches;
+        all = refl;
+        mapping = (bytes, (λ i. fetch_of (named i) mapping_limit (Ok (fetched.Bytes bytes))), is);
+        tables = subst (λ p. ReadsTables fetches p tables_limit mapping.rules.sources tables) below reads;
       },
     )
 
@@ -241,7 +193,7 @@ pub keeps_both : (a b c : Device Held) → Keeps a b → Keeps b c → Keeps a c
 keeps_both a b c first second = record { same = second.same ∙ first.same; later = omega (arith, first.later, second.later) }
 
 -- a count that rose in a later call rose since the first
-counted_since : (a b c : Device Held) (ending : Ending) → Keeps a b → Keeps b c → IsCounted b c ending → IsCounted a c ending
+pub counted_since : (a b c : Device Held) (ending : Ending) → Keeps a b → Keeps b c → IsCounted b c ending → IsCounted a c ending
 counted_since a b c ending first second counted = λ name is.
     then_rises a.faults b.faults c.faults first.later second.later (counted name is)
 

@@ -1,18 +1,15 @@
 -- What is loaded of what was read, and what an exchange gives of it.
-use Rattle.std.specs.Prelude.{◌≡◌, ℕ, List, length}
 use Rattle.term_core.specs.Pool.{IsPool}
 use Rattle.rule_core.specs.Rebase.{IsRebased}
 use Rattle.rule_core.specs.Validity.{IsValid}
 use Rattle.mapping_core.specs.Mapping.{HasItsConstants}
-use Rattle.fact_table.specs.declared.fact.Fact.{Fact}
 use Rattle.fact_table.specs.Facts.{IsTable}
-use Rattle.fact_table.specs.Snapshots.{stamped_facts}
-use Rattle.normaliser.specs.Normalised.{IsNormalised}
-use Rattle.failure_trace.specs.declared.firing.Firing.{Firing}
-use Rattle.failure_trace.specs.Firings.{AreFirings}
+use Rattle.failure_trace.specs.declared.trace.Trace.{Trace}
+use Rattle.failure_trace.specs.Printed.{IsWritable}
 use Rattle.exchange_engine.specs.Loading.{LoadedOf, HasEachConstant, AreFactsOf}
-use Rattle.exchange_engine.specs.Solved.{AreTargetTables, AreCoalesced, AreUniversal, AreWithinPool, AreUnknownsOf, AreCountsOf}
+use Rattle.exchange_engine.specs.Solved.{AreTargetTables, AreCoalesced, AreUniversal, AreWithinPool, AreUnknownsOf, AreCountsOf, IsRunOf}
 use Rattle.exchange_engine.specs.Answered.{AreAnswered}
+use Rattle.exchange_engine.specs.Failed.{IsAcceptedOn}
 use Rattle.exchange_engine.specs.declared.outcome.Solved.{Solved}
 use Rattle.exchange_cli.specs.Inputs.{Inputs}
 
@@ -27,7 +24,7 @@ pub record IsLoadedFrom (inputs : Inputs) (loaded : LoadedOf) : Type 0 where
   pub facts : AreFactsOf inputs.tables loaded.pool loaded.table
   pub once : IsTable loaded.table
 
--- what an exchange without equalities gives of what is loaded
+-- what an exchange gives of what is loaded, where it is solved
 pub record IsSolvedFrom (loaded : LoadedOf) (solved : Solved) : Type 0 where
   pub tables : AreTargetTables loaded.rules.targets solved.tables
   pub coalesced : AreCoalesced solved.tables
@@ -35,15 +32,10 @@ pub record IsSolvedFrom (loaded : LoadedOf) (solved : Solved) : Type 0 where
   pub within : AreWithinPool loaded solved.tables
   pub nulls : AreUnknownsOf solved.tables solved.nulls
   pub answers : AreAnswered loaded solved.answers
-  pub counts : AreCountsOf loaded solved.counts
+  pub counts : AreCountsOf loaded solved
+  pub run : IsRunOf loaded solved
 
--- what was read, loaded with some pool, has a normalised table of so many pieces, and so many firings come of that
-pub record AreCountsFrom (inputs : Inputs) (pieces firings : ℕ) : Type 0 where
-  pub loaded : LoadedOf
-  pub from : IsLoadedFrom inputs loaded
-  pub normalised : List Fact
-  pub pieced : IsNormalised loaded.rules loaded.table normalised
-  pub fired : List Firing
-  pub each : AreFirings loaded.rules (stamped_facts normalised) fired
-  pub pieces_are : pieces ≡ length normalised
-  pub firings_are : firings ≡ length fired
+-- and the trace that it gives, where it has failed
+pub record IsFailedFrom (loaded : LoadedOf) (trace : Trace) : Type 0 where
+  pub accepted : IsAcceptedOn loaded trace
+  pub writable : IsWritable trace

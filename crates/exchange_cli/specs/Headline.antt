@@ -1,5 +1,5 @@
 -- The clauses under the headline: what is promised of every command, and then of each.
-use Rattle.std.specs.Prelude.{◌≡◌, ◌≢◌, ◌⊎◌, ℕ, ℤ, List, Some}
+use Rattle.std.specs.Prelude.{◌≡◌, ◌≢◌, ◌⊎◌, ◌↔◌, ℕ, ℤ, List, [], ◌∷◌, Some}
 use Rattle.shelf_core.specs.Held.{Held}
 use Rattle.shelf_core.specs.Faults.{Rises}
 use Rattle.shelf_core.specs.Texts.{Appends, AppendsPrefix}
@@ -8,8 +8,13 @@ use Rattle.rule_core.specs.Mapping.{RuleSet}
 use Rattle.rule_core.specs.Terms.{FactOf, StampedOf}
 use Rattle.rule_core.specs.Snapshot.{snapshot_at}
 use Rattle.rule_core.specs.Solution.{HasSolution, IsSolution}
-use Rattle.exchange_cli.specs.Words.{Command, Exchange, Normalise, Origin, Spells, SpellsNone}
+use Rattle.failure_trace.specs.declared.trace.Trace.{Trace}
+use Rattle.failure_trace.specs.declared.why.Why.{Why}
+use Rattle.failure_trace.specs.TraceRun.{IsAccepted, IsRefused as TraceIsRefused}
+use Rattle.trace_checker.specs.declared.verdict.Verdict.TheVariants.{Accepted, Refused}
+use Rattle.exchange_cli.specs.Words.{Command, Exchange, Normalise, Snapshot, Check, Origin, Spells, SpellsNone}
 use Rattle.exchange_cli.specs.Inputs.{Inputs, name_of, source_of}
+use Rattle.exchange_cli.specs.Judged.{HasNone}
 use Rattle.exchange_cli.specs.Files.{SolvedFiles, AreSolvedFiles, in_order}
 use Rattle.exchange_cli.specs.Product.{Makes, IsFindingOf, IsOwnStatus}
 use Rattle.exchange_cli.specs.Endings.{IsDone, IsRefused, status_of, status_found, line_of, printed_of}
@@ -17,8 +22,12 @@ use Rattle.exchange_cli.specs.Work.{Fetch, AreTold, Reads, FailsFirst}
 use Rattle.exchange_cli.specs.Run.{Device, Moment, with_files, Untouched, Stores, Delivers, IsMadeFor, Says}
 use Rattle.exchange_cli.specs.Answers.{AreAnswerFiles}
 use Rattle.exchange_cli.specs.Pieces.{ArePieceFiles}
+use Rattle.exchange_cli.specs.Target.{TargetTable, AreTableFiles}
+use Rattle.exchange_cli.specs.RunBehind.{IsRunBehind}
+use Rattle.exchange_cli.specs.Certificate.{IsCertificate}
+use Rattle.exchange_cli.specs.Snapshot.{SnapshotFiles, AreSnapshotFiles, shown_in_order}
 use Rattle.exchange_cli.specs.declared.file.FileOut.{FileOut}
-use Rattle.exchange_cli.specs.declared.ending.Finding.TheVariants.{Normalised}
+use Rattle.exchange_cli.specs.declared.ending.Finding.TheVariants.{Solved, NoSolution, Normalised, Shown, Checked}
 use Rattle.exchange_cli.specs.declared.product.Product.{Product}
 use Rattle.exchange_cli.specs.declared.ending.Finding.{Finding}
 use Rattle.exchange_cli.specs.declared.ending.Ending.{Ending}
@@ -81,7 +90,7 @@ IsLineOf words status line =
     (command : Command) × (finding : Finding) × Spells words command × IsFindingOf command finding
     × (status ≡ status_found finding) × (line ≡ printed_of finding)
 
--- after 0 and 2 the line of what was found is printed; after 3 a first part of such a line may be; after 1, 4 and 5 nothing is
+-- after 0, 2 and 6 the line of what was found is printed; after 3 a first part of such a line may be; after 1, 4 and 5 nothing is
 pub record OutputClause (words : List (List ℕ)) (before after : Device (List ℕ)) (status : ℕ) : Type 0 where
   pub done : IsDone status → (line : List ℕ) × IsLineOf words status line × Appends before.content after.content line
   pub failed : status ≡ 3 → (after ≡ before)
@@ -89,7 +98,7 @@ pub record OutputClause (words : List (List ℕ)) (before after : Device (List �
       × Rises before.faults after.faults)
   pub refused : IsRefused status → after ≡ before
 
--- what the shelf holds at the end: after 0 and 2 what it held, with exactly the files of a product of the command set; after 3
+-- what the shelf holds at the end: after 0, 2 and 6 what it held, with exactly the files of a product of the command set; after 3
 -- what it held where a fetch failed, all those files where the output failed, and the files before the one whose store failed;
 -- after 1, 4 and 5 what it held
 pub record StoreClause (words : List (List ℕ)) (before after : Moment) (status : ℕ) : Type 0 where
@@ -130,6 +139,26 @@ AnswersClause words before after status =
     → IsUnhindered words before after status (Exchange origin target) held inputs → status ≡ 0
     → (files : SolvedFiles) × AreAnswerFiles inputs target files.answers × (after.shelf.content ≡ Some (with_files held (in_order files)))
 
+-- and the printed numbers are those of a run behind the target's tables: of its pieces of the source, its firings, its steps and its cuts
+abbrev pub CountsClause : List (List ℕ) → Moment → Moment → ℕ → Type 0
+CountsClause words before after status =
+    (origin : Origin) (target : List ℕ) (held : Held) (inputs : Inputs)
+    → IsUnhindered words before after status (Exchange origin target) held inputs → status ≡ 0
+    → (files : SolvedFiles) × (tables : List TargetTable) × AreTableFiles target inputs.mapping.rules.targets files.tables tables
+    × (after.shelf.content ≡ Some (with_files held (in_order files)))
+    × (pieces : ℕ) × (firings : ℕ) × (steps : ℕ) × (cuts : ℕ) × IsRunBehind inputs tables pieces firings steps cuts
+    × Appends before.out.content after.out.content (printed_of (Solved pieces firings steps cuts))
+
+-- after 2 the shelf holds what it held, with the verdict alone set: it is the text of a trace that the trace run accepts on the mapping
+-- and the source, whose instant has no solution; the line with this instant is printed
+abbrev pub CertificateClause : List (List ℕ) → Moment → Moment → ℕ → Type 0
+CertificateClause words before after status =
+    (origin : Origin) (target : List ℕ) (held : Held) (inputs : Inputs)
+    → IsUnhindered words before after status (Exchange origin target) held inputs → status ≡ 2
+    → (trace : Trace) × (file : FileOut) × IsCertificate inputs target trace file
+    × (after.shelf.content ≡ Some (with_files held (file ∷ [])))
+    × Appends before.out.content after.out.content (printed_of (NoSolution trace.instant))
+
 -- `normalise MAPPING SOURCE OUT`
 
 -- the status is 0, the shelf holds what it held, with exactly the files of the source in pieces set, and the line with the numbers of
@@ -141,3 +170,54 @@ PiecesClause words before after status =
     → (files : List FileOut) × (facts : ℕ) × (pieces : ℕ) × ArePieceFiles inputs out files facts pieces × (status ≡ 0)
     × (after.shelf.content ≡ Some (with_files held files))
     × Appends before.out.content after.out.content (printed_of (Normalised facts pieces))
+
+-- `snapshot MAPPING SOURCE INSTANT OUT`
+
+-- the status is 0 and the mapping has a solution for the source at every instant; the shelf holds what it held, with exactly the files of a
+-- snapshot at the instant set, and the line with the number of their rows is printed
+pub record ShowsSnapshot (before after : Moment) (status : ℕ) (t : ℤ) (out : List ℕ) (held : Held) (inputs : Inputs) : Type 0 where
+  pub answer : status ≡ 0
+  pub solvable : HasSolution (name_of inputs) inputs.mapping.rules (source_of inputs)
+  pub files : SnapshotFiles
+  pub rows : ℕ
+  pub each : AreSnapshotFiles inputs t out files rows
+  pub stored : after.shelf.content ≡ Some (with_files held (shown_in_order files))
+  pub printed : Appends before.out.content after.out.content (printed_of (Shown t rows))
+
+-- the status is 2; the shelf holds what it held, with the verdict alone set: it is the text of a trace that the trace run accepts on the
+-- mapping and the source, whose instant has no solution; the line with this instant is printed
+pub record ShowsNone (before after : Moment) (status : ℕ) (out : List ℕ) (held : Held) (inputs : Inputs) : Type 0 where
+  pub answer : status ≡ 2
+  pub trace : Trace
+  pub file : FileOut
+  pub certificate : IsCertificate inputs out trace file
+  pub stored : after.shelf.content ≡ Some (with_files held (file ∷ []))
+  pub printed : Appends before.out.content after.out.content (printed_of (NoSolution trace.instant))
+
+-- the target is shown at the instant, or there is none at some instant and a certificate is stored
+abbrev pub SnapshotClause : List (List ℕ) → Moment → Moment → ℕ → Type 0
+SnapshotClause words before after status =
+    (origin : Origin) (t : ℤ) (out : List ℕ) (held : Held) (inputs : Inputs)
+    → IsUnhindered words before after status (Snapshot origin t out) held inputs
+    → ShowsSnapshot before after status t out held inputs
+    ⊎ ShowsNone before after status out held inputs
+
+-- `check MAPPING SOURCE TRACE`
+
+-- the status is 0 exactly where the trace is accepted on what was read, and then its instant has no solution; else it is 6, and the line
+-- names the first step that fails and the first part of the table by which it does. Nothing was stored
+pub record ChecksTrace (before after : Moment) (status : ℕ) (inputs : Inputs) : Type 0 where
+  pub trace : Trace
+  pub read : inputs.trace ≡ Some trace
+  pub exactly : (status ≡ 0) ↔ IsAccepted (name_of inputs) inputs.mapping.rules (source_of inputs) trace
+  pub shows : status ≡ 0 → HasNone inputs trace
+  pub accepted : status ≡ 0 → Appends before.out.content after.out.content (printed_of (Checked Accepted))
+  pub refused : status ≢ 0 → (status ≡ 6) × (step : ℕ) × (why : Why)
+      × TraceIsRefused (name_of inputs) inputs.mapping.rules (source_of inputs) trace step why
+      × Appends before.out.content after.out.content (printed_of (Checked (Refused step why)))
+  pub same : after.shelf.content ≡ before.shelf.content
+
+abbrev pub CheckClause : List (List ℕ) → Moment → Moment → ℕ → Type 0
+CheckClause words before after status =
+    (origin : Origin) (name : List ℕ) (held : Held) (inputs : Inputs)
+    → IsUnhindered words before after status (Check origin name) held inputs → ChecksTrace before after status inputs

@@ -13,7 +13,7 @@ use Rattle.exchange_cli.specs.Work.{Fetch, AreTold, Reads, FailsFirst}
 use Rattle.exchange_cli.specs.declared.file.FileOut.{FileOut}
 use Rattle.exchange_cli.specs.declared.product.Product.{Product}
 use Rattle.exchange_cli.specs.declared.ending.Ending.{Ending}
-use Rattle.exchange_cli.specs.declared.ending.Ending.TheVariants.{Done, Words, Missing, TooLong, Mapping, NotBuilt, Table, Read, Write, Output, Memory}
+use Rattle.exchange_cli.specs.declared.ending.Ending.TheVariants.{Done, Words, Missing, TooLong, Mapping, Table, Trace, Read, Write, Output, Memory}
 
 -- what is known of a shelf or of a sink at a moment: what it holds, where it tells, and its count of faults
 pub record Device (Content : Type 0) : Type 0 where
@@ -93,8 +93,8 @@ Causes words before after Words = SpellsNone words × (after ≡ before)
 Causes words before after (Missing name) = Refuses words before (Missing name) × Untouched before after
 Causes words before after (TooLong name) = Refuses words before (TooLong name) × Untouched before after
 Causes words before after (Mapping fault) = Refuses words before (Mapping fault) × Untouched before after
-Causes words before after NotBuilt = Refuses words before NotBuilt × Untouched before after
 Causes words before after (Table name fault) = Refuses words before (Table name fault) × Untouched before after
+Causes words before after (Trace fault) = Refuses words before (Trace fault) × Untouched before after
 Causes words before after (Read name) =
     Refuses words before (Read name) × Untouched before after × Rises before.shelf.faults after.shelf.faults
 Causes words before after Memory = (command : Command) × Spells words command × Untouched before after

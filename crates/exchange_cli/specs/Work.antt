@@ -1,6 +1,7 @@
 -- The order of work up to the first store: what is fetched and read in turn, and the first failure.
-use Rattle.std.specs.Prelude.{◌≡◌, ◌⊎◌, ℕ, ◌-◌, List, [], ◌∷◌, length, All}
+use Rattle.std.specs.Prelude.{◌≡◌, ◌⊎◌, ℕ, ◌-◌, ◌^◌, List, [], ◌∷◌, ◌++◌, length, All}
 use Rattle.std.specs.declared.option.Option.{Option}
+use Rattle.std.specs.declared.option.Option.TheVariants.{None, Some}
 use Rattle.std.specs.declared.result.Result.{Result}
 use Rattle.std.specs.declared.result.Result.TheVariants.{Ok, Err}
 use Rattle.shelf_core.specs.Held.{Held}
@@ -13,19 +14,23 @@ use Rattle.rule_core.specs.declared.rules.Relation.{Relation}
 use Rattle.mapping_core.specs.Mapping.{Meaning as MappingValue}
 use Rattle.mapping_core.specs.Reading.{IsMapping, IsFirstFault as IsMappingFault}
 use Rattle.temporal_csv.specs.Table.{IsTable, IsFirstFault as IsTableFault}
-use Rattle.exchange_cli.specs.Words.{Command, Origin, origin_of}
+use Rattle.failure_trace.specs.declared.trace.Trace.{Trace as TraceValue}
+use Rattle.failure_trace.specs.TraceText.{IsTrace, Fails}
+use Rattle.exchange_cli.specs.Words.{Command, Origin, origin_of, trace_of}
 use Rattle.exchange_cli.specs.Names.{table_name}
-use Rattle.exchange_cli.specs.Built.{Takes}
 use Rattle.exchange_cli.specs.Inputs.{SourceTable, Inputs}
 use Rattle.exchange_cli.specs.declared.ending.Ending.{Ending}
-use Rattle.exchange_cli.specs.declared.ending.Ending.TheVariants.{Missing, TooLong, Mapping, NotBuilt, Table, Read}
+use Rattle.exchange_cli.specs.declared.ending.Ending.TheVariants.{Missing, TooLong, Mapping, Table, Trace, Read}
 
--- how many bytes a mapping may have, and how many all source tables together
+-- how many bytes a mapping may have, how many all source tables together, and how many a trace
 abbrev pub mapping_limit : ℕ
 mapping_limit = 1048576
 
 abbrev pub tables_limit : ℕ
 tables_limit = 67108864
+
+abbrev pub trace_limit : ℕ
+trace_limit = 2 ^ 64 - 1
 
 -- the fetches of a run
 
@@ -67,17 +72,28 @@ ReadsTables fetches prefix left (r ∷ rs) tables =
     × (tables ≡ facts ∷ others) × ReadsTables later prefix (left - size) rs others
 
 -- all that is read from there was fetched, and is without a fault: the mapping first, and then the tables of its source
-pub record ReadsFrom (origin : Origin) (fetches : List Fetch) (inputs : Inputs) : Type 0 where
+pub record ReadsFrom (origin : Origin) (fetches : List Fetch) (meaning : MappingValue) (facts : List SourceTable) : Type 0 where
   pub first : Fetch
   pub later : List Fetch
   pub all : fetches ≡ first ∷ later
-  pub mapping : ReadsMapping first origin inputs.mapping
-  pub tables : ReadsTables later origin.source tables_limit inputs.mapping.rules.sources inputs.tables
+  pub mapping : ReadsMapping first origin meaning
+  pub tables : ReadsTables later origin.source tables_limit meaning.rules.sources facts
 
--- all that the command reads was fetched and is without a fault, and the mapping is of a form that it takes
+-- the trace was fetched, and is without a fault; where none is named, none was
+abbrev pub ReadsTrace : Option (List ℕ) → List Fetch → Option TraceValue → Type 0
+ReadsTrace None fetches trace = (fetches ≡ []) × (trace ≡ None)
+ReadsTrace (Some name) fetches trace =
+    (fetch : Fetch) × (bytes : List ℕ) × (value : TraceValue) × (fetches ≡ fetch ∷ []) × Gives fetch name trace_limit bytes
+    × IsTrace bytes value × (trace ≡ Some value)
+
+-- all that the command reads was fetched and is without a fault: the mapping, the tables, and then the trace that it names, if it
+-- names one
 pub record Reads (command : Command) (fetches : List Fetch) (inputs : Inputs) : Type 0 where
-  pub read : ReadsFrom (origin_of command) fetches inputs
-  pub taken : Takes command inputs.mapping.rules
+  pub earlier : List Fetch
+  pub last : List Fetch
+  pub all : fetches ≡ earlier ++ last
+  pub read : ReadsFrom (origin_of command) earlier inputs.mapping inputs.tables
+  pub trace : ReadsTrace (trace_of command) last inputs.trace
 
 -- the first failure
 
@@ -88,17 +104,21 @@ Stops fetch HasFault (TooLong name) = (name ≡ fetch.name) × (fetch.answer ≡
 Stops fetch HasFault (Read name) = (name ≡ fetch.name) × (fetch.answer ≡ Err Failed)
 Stops fetch HasFault other = (bytes : List ℕ) × (fetch.answer ≡ Ok (fetched.Bytes bytes)) × HasFault bytes other
 
--- the bytes of a mapping are refused so: they have a fault, or the command doesn't take a mapping of this form yet
-abbrev pub RefusesMapping : Command → List ℕ → Ending → Type 0
-RefusesMapping command bytes (Mapping fault) = IsMappingFault bytes fault
-RefusesMapping command bytes NotBuilt = (mapping : MappingValue) × IsMapping bytes mapping × ¬ (Takes command mapping.rules)
-RefusesMapping command bytes other = ⊥
+-- the bytes of a mapping are refused so: they have this fault
+abbrev pub RefusesMapping : List ℕ → Ending → Type 0
+RefusesMapping bytes (Mapping fault) = IsMappingFault bytes fault
+RefusesMapping bytes other = ⊥
 
 -- the bytes of a table are refused so
 abbrev pub RefusesTable : List ℕ → Relation → List ℕ → Ending → Type 0
 RefusesTable prefix relation bytes (Table name fault) =
     (name ≡ table_name prefix relation.name) × IsTableFault relation.columns bytes fault
 RefusesTable prefix relation bytes other = ⊥
+
+-- the bytes of a trace are refused so
+abbrev pub RefusesTrace : List ℕ → Ending → Type 0
+RefusesTrace bytes (Trace fault) = Fails bytes fault
+RefusesTrace bytes other = ⊥
 
 -- the fetch is that of this name with this limit, and ended the run so
 pub record StopsAt (fetch : Fetch) (name : List ℕ) (limit : ℕ) (HasFault : List ℕ → Ending → Type 0) (ending : Ending) : Type 0 where
@@ -115,11 +135,25 @@ StopsAtTable fetches prefix left (r ∷ rs) ending =
     ⊎ ((size : ℕ) × (facts : SourceTable) × ReadsTable fetch prefix r left size facts
     × StopsAtTable later prefix (left - size) rs ending))
 
--- the last of the fetches ended the run so, and all that stands before it in the order of work went well: a mapping that is
--- read is looked at before any table is fetched
+-- the fetch of the trace ended the run so, where one is named
+abbrev pub StopsAtTrace : Option (List ℕ) → Fetch → Ending → Type 0
+StopsAtTrace None fetch ending = ⊥
+StopsAtTrace (Some name) fetch ending = StopsAt fetch name trace_limit RefusesTrace ending
+
+-- the last of the fetches is that of the mapping or of a table and ended the run so, and all that stands before it in the order of
+-- work went well
+abbrev pub FailsInOrigin : Command → List Fetch → Ending → Type 0
+FailsInOrigin command fetches ending =
+    (fetch : Fetch) × (later : List Fetch) × (fetches ≡ fetch ∷ later)
+    × (((later ≡ []) × StopsAt fetch (origin_of command).mapping mapping_limit RefusesMapping ending)
+    ⊎ ((mapping : MappingValue) × ReadsMapping fetch (origin_of command) mapping
+    × StopsAtTable later (origin_of command).source tables_limit mapping.rules.sources ending))
+
+-- the last of the fetches ended the run so, and all that stands before it in the order of work went well: the trace comes behind the
+-- mapping and the tables
 abbrev pub FailsFirst : Command → List Fetch → Ending → Type 0
 FailsFirst command fetches ending =
-    (fetch : Fetch) × (later : List Fetch) × (fetches ≡ fetch ∷ later)
-    × (((later ≡ []) × StopsAt fetch (origin_of command).mapping mapping_limit (RefusesMapping command) ending)
-    ⊎ ((mapping : MappingValue) × ReadsMapping fetch (origin_of command) mapping × Takes command mapping.rules
-    × StopsAtTable later (origin_of command).source tables_limit mapping.rules.sources ending))
+    FailsInOrigin command fetches ending
+    ⊎ ((earlier : List Fetch) × (fetch : Fetch) × (mapping : MappingValue) × (tables : List SourceTable)
+    × (fetches ≡ earlier ++ fetch ∷ []) × ReadsFrom (origin_of command) earlier mapping tables
+    × StopsAtTrace (trace_of command) fetch ending)

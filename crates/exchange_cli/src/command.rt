@@ -1,12 +1,10 @@
 //! The commands that the words of a run spell.
 
-ghost use Rattle.std.specs.Prelude.{◌≡◌, map, string_bytes, IfSome, IfNone, IsTrue, ◌↔◌};
-ghost use Rattle.exchange_cli.specs.Built.{Takes};
+ghost use Rattle.std.specs.Prelude.{◌≡◌, map, string_bytes, IfSome, IfNone};
 ghost use Rattle.exchange_cli.specs.Words.{Spells, SpellsNone, origin_of};
 ghost use Rattle.exchange_cli.specs.Commands.{command_of, lent_origin};
 
-use crate::built::has_no_egd;
-use rule_core::Rules;
+use crate::snapshot_words::read_snapshot;
 
 /// From where a command reads: the name of the mapping, and the prefix of the source's tables.
 #[derive(Clone, Copy)]
@@ -22,6 +20,10 @@ pub enum Command<'a> {
     Exchange(Origin<'a>, &'a str),
     /// `normalise MAPPING SOURCE OUT`, with the prefix of what is stored.
     Normalise(Origin<'a>, &'a str),
+    /// `snapshot MAPPING SOURCE INSTANT OUT`, with the instant and the prefix of what is stored.
+    Snapshot(Origin<'a>, i64, &'a str),
+    /// `check MAPPING SOURCE TRACE`, with the name of the trace.
+    Check(Origin<'a>, &'a str),
 }
 
 impl<'a> Command<'a> {
@@ -32,16 +34,8 @@ impl<'a> Command<'a> {
         match self {
             Command::Exchange(origin, _) => *origin,
             Command::Normalise(origin, _) => *origin,
-        }
-    }
-
-    /// Whether the command takes a mapping of this form so far.
-    pub fn takes(&self, rules: &Rules) -> bool
-        ensures { IsTrue result ↔ Takes (command_of self.now) rules.now }
-    {
-        match self {
-            Command::Exchange(_, _) => has_no_egd(rules),
-            Command::Normalise(_, _) => true,
+            Command::Snapshot(origin, _, _) => *origin,
+            Command::Check(origin, _) => *origin,
         }
     }
 }
@@ -51,18 +45,21 @@ pub fn read_words(words: &[String]) -> Option<Command<'_>>
     ensures spelled { IfSome result (λ c. Spells (map string_bytes words.now) (command_of c)) }
     ensures other { IfNone result (SpellsNone (map string_bytes words.now)) }
 {
-    let [first, mapping, source, out] = words else {
-        return None;
+    let [first, mapping, source, last] = words else {
+        return read_snapshot(words);
     };
     let origin = Origin {
         mapping: mapping.as_str(),
         source: source.as_str(),
     };
     if first.as_str() == "exchange" {
-        return Some(Command::Exchange(origin, out.as_str()));
+        return Some(Command::Exchange(origin, last.as_str()));
     }
     if first.as_str() == "normalise" {
-        return Some(Command::Normalise(origin, out.as_str()));
+        return Some(Command::Normalise(origin, last.as_str()));
+    }
+    if first.as_str() == "check" {
+        return Some(Command::Check(origin, last.as_str()));
     }
     None
 }

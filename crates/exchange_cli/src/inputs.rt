@@ -3,18 +3,19 @@
 ghost use Rattle.std.specs.Prelude.{◌≡◌, ◌+◌, ◌-◌, ◌^◌, ◌<◌, ◌≤◌, All, IfOk, IfErr, length, sum_by};
 ghost use Rattle.rule_core.specs.Validity.{IsRelation};
 ghost use Rattle.exchange_engine.specs.Loading.{AreTablesOf, cell_count};
-ghost use Rattle.exchange_cli.specs.Built.{Takes};
 ghost use Rattle.exchange_cli.specs.Commands.{command_of};
 ghost use Rattle.exchange_cli.specs.Names.{table_name};
-ghost use Rattle.exchange_cli.specs.Work.{RefusesTable, mapping_limit};
+ghost use Rattle.exchange_cli.specs.Work.{RefusesMapping, RefusesTable, mapping_limit};
 ghost use Rattle.exchange_cli.specs.Run.{device};
-ghost use Rattle.exchange_cli.specs.Steps.{Keeps, AnswersMapping, AnswersTable, AnswersTables, AnswersAll, FailsToRead, HasMappingFault, StopsInTables, StopsEarly, read_of};
+ghost use Rattle.exchange_cli.specs.Steps.{Keeps, AnswersMapping, AnswersTable, AnswersTables, AnswersAll, FailsToRead, StopsInTables, StopsInOrigin, StopsEarly, AnswersOrigin, HasItsTrace, read_of};
 
 use crate::command::Command;
 use crate::ending::Ending;
 use crate::fetching::fetch;
 use crate::file_names::name_table;
+use crate::traces::fetch_trace;
 use decl_text::ReadError;
+use failure_trace::Trace;
 use mapping_core::{Mapping, read_mapping};
 use rule_core::Relation;
 use shelf_core::Shelf;
@@ -28,11 +29,19 @@ pub const MAPPING_LIMIT: usize = 1_048_576;
 /// The most bytes that all source tables together may have.
 pub const TABLES_LIMIT: usize = 67_108_864;
 
-/// A mapping, and the facts of each source table in the order of the relations.
+// A mapping, and the facts of each source table in the order of the relations.
+#[derive(Drop)]
+struct Source {
+    mapping: Mapping,
+    tables: Items<Items<RawFact>>,
+}
+
+/// A mapping, the facts of each source table in the order of the relations, and a trace, if the command names one.
 #[derive(Drop)]
 pub struct Inputs {
     pub mapping: Mapping,
     pub tables: Items<Items<RawFact>>,
+    pub trace: Option<Trace>,
 }
 
 /// Reads all that the command needs, or says how the run ends.
@@ -45,21 +54,44 @@ pub fn read_inputs<S: Shelf>(
         (device (S.holds shelf.new) (S.faults shelf.new)) }
     ensures reads { IfOk result (λ inputs.
         AnswersAll (S.holds shelf.old) (command_of command.now) (read_of inputs)) }
-    ensures taken { IfOk result (λ inputs. Takes (command_of command.now) inputs.mapping.rules) }
     ensures tables { IfOk result (λ inputs.
         AreTablesOf inputs.mapping.rules.sources inputs.tables) }
     ensures few { IfOk result (λ inputs.
         length inputs.mapping.pool + cell_count inputs.tables < 2 ^ 32 - 1) }
+    ensures trace { IfOk result (λ inputs. HasItsTrace (command_of command.now) inputs.trace) }
     ensures stops { IfErr result (StopsEarly (device (S.holds shelf.old) (S.faults shelf.old))
+        (device (S.holds shelf.new) (S.faults shelf.new)) (command_of command.now)) }
+{
+    let Source { mapping, tables } = read_source(alloc, shelf, command)?;
+    let trace = fetch_trace(alloc, shelf, command)?;
+    Ok(Inputs {
+        mapping,
+        tables,
+        trace,
+    })
+}
+
+// Reads the mapping, and then the tables of its source.
+fn read_source<S: Shelf>(
+    alloc: Global,
+    shelf: &mut S,
+    command: &Command<'_>,
+) -> Result<Source, Ending>
+    ensures keeps { Keeps (device (S.holds shelf.old) (S.faults shelf.old))
+        (device (S.holds shelf.new) (S.faults shelf.new)) }
+    ensures reads { IfOk result (λ source.
+        AnswersOrigin (S.holds shelf.old) (command_of command.now) source.mapping source.tables) }
+    ensures tables { IfOk result (λ source.
+        AreTablesOf source.mapping.rules.sources source.tables) }
+    ensures few { IfOk result (λ source.
+        length source.mapping.pool + cell_count source.tables < 2 ^ 32 - 1) }
+    ensures stops { IfErr result (StopsInOrigin (device (S.holds shelf.old) (S.faults shelf.old))
         (device (S.holds shelf.new) (S.faults shelf.new)) (command_of command.now)) }
 {
     let origin = command.origin();
     let mapping = fetch_mapping(alloc, shelf, origin.mapping)?;
-    if !command.takes(&mapping.rules) {
-        return Err(Ending::NotBuilt);
-    }
     let tables = fetch_tables(alloc, shelf, origin.source, &mapping)?;
-    Ok(Inputs { mapping, tables })
+    Ok(Source { mapping, tables })
 }
 
 // The mapping.
@@ -69,7 +101,7 @@ fn fetch_mapping<S: Shelf>(alloc: Global, shelf: &mut S, name: &str) -> Result<M
     ensures reads { IfOk result (AnswersMapping (S.holds shelf.old) name.now mapping_limit) }
     ensures few { IfOk result (λ mapping. length mapping.pool ≤ MAPPING_LIMIT) }
     ensures stops { IfErr result (FailsToRead (device (S.holds shelf.old) (S.faults shelf.old))
-        (device (S.holds shelf.new) (S.faults shelf.new)) name.now mapping_limit HasMappingFault) }
+        (device (S.holds shelf.new) (S.faults shelf.new)) name.now mapping_limit RefusesMapping) }
 {
     let name = Text::from_str(alloc, name)?;
     let bytes = fetch(alloc, shelf, &name, MAPPING_LIMIT)?;

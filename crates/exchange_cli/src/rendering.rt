@@ -113,8 +113,8 @@ fn stored_rows(
     Ok(rows)
 }
 
-// The cells of a row as they are stored.
-fn stored_cells(
+/// The cells of a row as they are stored.
+pub fn stored_cells(
     alloc: Global,
     pool: &Pool,
     nulls: &[Unknown],

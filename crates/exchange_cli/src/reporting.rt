@@ -6,10 +6,13 @@ ghost use Rattle.shelf_core.specs.Texts.{Appends};
 ghost use Rattle.exchange_cli.specs.Run.{device, Says};
 ghost use Rattle.exchange_cli.specs.Endings.{line, line_of};
 ghost use Rattle.exchange_cli.specs.FaultTexts.{mapping_fault, table_fault};
+ghost use Rattle.exchange_cli.specs.VerdictTexts.{trace_fault};
 
 use crate::ending::Ending;
 use crate::fault_texts::{mapping_code, table_code};
+use crate::verdict_texts::trace_code;
 use decl_text::MappingFault;
+use failure_trace::TraceFault;
 use itoa::Buffer;
 use shelf_core::{Sink, SinkFailed};
 use temporal_csv::TableFault;
@@ -26,8 +29,8 @@ pub fn report<E: Sink>(err: &mut E, ending: &Ending)
         Ending::Missing(name) => say(err, b"refused: missing ", name.as_bytes()),
         Ending::TooLong(name) => say(err, b"refused: too long ", name.as_bytes()),
         Ending::Mapping(fault) => say_mapping(err, *fault),
-        Ending::NotBuilt => say(err, b"refused: not built", b""),
         Ending::Table(name, fault) => say_table(err, name, *fault),
+        Ending::Trace(fault) => say_trace(err, *fault),
         Ending::Read(name) => say(err, b"fault: read ", name.as_bytes()),
         Ending::Write(name) => say(err, b"fault: write ", name.as_bytes()),
         Ending::Output => say(err, b"fault: output", b""),
@@ -67,6 +70,20 @@ fn say_table<E: Sink>(err: &mut E, name: &Text, fault: TableFault)
 {
     let code = table_code(fault.code);
     if put_table(err, name).is_ok() && put_fault(err, code, b" at record ", fault.at).is_ok() {
+        let _ = err.put(b"\n");
+    }
+}
+
+// Writes the line of the fault of a trace's text, unless the sink fails.
+fn say_trace<E: Sink>(err: &mut E, fault: TraceFault)
+    ensures { Says (device (E.text err.old) (E.faults err.old))
+        (device (E.text err.new) (E.faults err.new))
+        (line (codes "refused: trace " ++ trace_fault fault)) }
+{
+    let code = trace_code(fault.code);
+    if err.put(b"refused: trace ").is_ok()
+        && put_fault(err, code, b" at line ", fault.line).is_ok()
+    {
         let _ = err.put(b"\n");
     }
 }

@@ -4,7 +4,7 @@ ghost use Rattle.std.specs.Prelude.{◌≡◌, map, string_bytes};
 ghost use Rattle.exchange_cli.specs.Words.{SpellsNone};
 ghost use Rattle.exchange_cli.specs.Run.{device, seen, Causes, Ends, Says};
 ghost use Rattle.exchange_cli.specs.Endings.{line_of};
-ghost use Rattle.exchange_cli.specs.Headline.{WordsClause, AnswerClause, RefusalClause, CompletesClause, OutputClause, StoreClause, StatusClause, TargetClause, AnswersClause, PiecesClause};
+ghost use Rattle.exchange_cli.specs.Headline.{WordsClause, AnswerClause, RefusalClause, CompletesClause, OutputClause, StoreClause, StatusClause, TargetClause, AnswersClause, CountsClause, CertificateClause, PiecesClause, SnapshotClause, CheckClause};
 
 use crate::command::read_words;
 use crate::delivery::deliver;
@@ -17,8 +17,9 @@ use shelf_core::{Shelf, Sink};
 use std::alloc::Global;
 
 /// Runs the command that the words spell and answers the status with which the program ends: 0 where it is done,
-/// 1 where an input is refused, 3 where a fetch, a store or the output failed, 4 where there was no memory, and 5
-/// where the words are no command's. The words come without the program's name.
+/// 1 where an input is refused, 2 where some instant has no solution, 3 where a fetch, a store or the output failed, 4 where
+/// there was no memory, 5 where the words are no command's, and 6 where a trace isn't accepted. The words come without the
+/// program's name.
 pub fn run<S: Shelf, O: Sink, E: Sink>(
     alloc: Global,
     words: &Vec<String>,
@@ -68,9 +69,25 @@ pub fn run<S: Shelf, O: Sink, E: Sink>(
     ensures answers { AnswersClause (map string_bytes words.now.items)
         (seen S.holds S.faults O.text O.faults shelf.old out.old)
         (seen S.holds S.faults O.text O.faults shelf.new out.new) result }
+    ensures counts { CountsClause (map string_bytes words.now.items)
+        (seen S.holds S.faults O.text O.faults shelf.old out.old)
+        (seen S.holds S.faults O.text O.faults shelf.new out.new) result }
+    ensures certificate { CertificateClause (map string_bytes words.now.items)
+        (seen S.holds S.faults O.text O.faults shelf.old out.old)
+        (seen S.holds S.faults O.text O.faults shelf.new out.new) result }
 
     // The clause of `normalise`.
     ensures pieces { PiecesClause (map string_bytes words.now.items)
+        (seen S.holds S.faults O.text O.faults shelf.old out.old)
+        (seen S.holds S.faults O.text O.faults shelf.new out.new) result }
+
+    // The clause of `snapshot`.
+    ensures snapshot { SnapshotClause (map string_bytes words.now.items)
+        (seen S.holds S.faults O.text O.faults shelf.old out.old)
+        (seen S.holds S.faults O.text O.faults shelf.new out.new) result }
+
+    // The clause of `check`.
+    ensures checks { CheckClause (map string_bytes words.now.items)
         (seen S.holds S.faults O.text O.faults shelf.old out.old)
         (seen S.holds S.faults O.text O.faults shelf.new out.new) result }
 {

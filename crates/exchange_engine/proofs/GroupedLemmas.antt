@@ -20,8 +20,8 @@ use Rattle.fact_table.specs.Rows.{SeenRow, row_at, head_of, head_at, cell_at}
 use Rattle.body_match.proofs.ListLemmas.{zip_at, zip_length}
 use Rattle.body_match.proofs.SearchLemmas.{some_and, and_some, same_some, row_from_head}
 use Rattle.null_store.specs.Store.{Store, term_in, fact_in, facts_in}
-use Rattle.exchange_engine.specs.Solved.{TermTable, AreCoalesced}
-use Rattle.exchange_engine.specs.Grouped.{table_facts, AreBelow, IsRowOf, HaveFacts, AddsRow, IsCoalescedFrom, HoldSnapshotsOf}
+use Rattle.exchange_engine.specs.Solved.{TermTable, AreCoalesced, HoldSnapshotsOf}
+use Rattle.exchange_engine.specs.Grouped.{table_facts, AreBelow, IsRowOf, HaveFacts, AddsRow, IsCoalescedFrom}
 use Rattle.exchange_engine.proofs.TableFactLemmas.{Entry, TargetFact, fact_for, in_facts, from_facts, more_facts}
 
 -- one row

@@ -1,7 +1,12 @@
 pub mod TableFactLemmas
 pub mod GroupedLemmas
 pub mod MadeLemmas
+pub mod SourceLemmas
+pub mod RunLemmas
+pub mod FiredLemmas
 pub mod SolvedLemmas
+pub mod FailedLemmas
+pub mod TargetLemmas
 pub mod UnknownLemmas
 pub mod GatheredLemmas
 pub mod FactLemmas

@@ -1,9 +1,10 @@
--- Coalesced tables that hold the firing facts of a source at every instant: they are universal, and what they are made of.
-use Rattle.std.proofs.Common.{◌≡◌, ◌↔◌, ℕ, ℤ, ◌<◌, Some, List, [], ◌∷◌, length, get_or, map, refl, sym, ap, ◌∙◌, subst, All, Contains, Option, None}
-use Rattle.std.specs.Prelude.{IsSomeAnd, slice_get}
+-- Coalesced tables that hold at every instant what the rows of a source's firings were settled to: they are universal, and what they are
+-- made of.
+use Rattle.std.proofs.Common.{◌≡◌, ◌↔◌, ℕ, ℤ, Some, List, length, get_or, map, refl, sym, ap, ◌∙◌, subst, All, Contains}
+use Rattle.std.specs.Prelude.{slice_get}
 use Rattle.std.specs.Cmp.Lexicographic.{slice_cmp}
 use Rattle.std.proofs.lemmas.List.{length-map}
-use Rattle.std.proofs.lemmas.List.Elements.{All-nil, All-map, All-contains, Contains-get_or}
+use Rattle.std.proofs.lemmas.List.Elements.{All-contains, Contains-get_or}
 use Rattle.std.proofs.lemmas.Option.{slice_get-get_or}
 use Rattle.time_line.specs.Span.{HasInstant}
 use Rattle.term_core.specs.declared.const_id.ConstId.{ConstId}
@@ -12,98 +13,49 @@ use Rattle.term_core.specs.declared.term.Term.TheVariants.{Const, Null}
 use Rattle.term_core.specs.declared.term.Unknown.{Unknown as HeldUnknown}
 use Rattle.term_core.specs.Order.{term_cmp}
 use Rattle.rule_core.specs.declared.rules.Relation.{Relation}
-use Rattle.rule_core.specs.declared.rules.Tgd.{Tgd}
-use Rattle.rule_core.specs.declared.rules.Atom.{Atom}
-use Rattle.rule_core.specs.Terms.{TermOf, constant, unknown, FactOf}
+use Rattle.rule_core.specs.Terms.{FactOf}
 use Rattle.rule_core.specs.Values.{term_value}
 use Rattle.rule_core.specs.Mapping.{RuleSet}
-use Rattle.rule_core.specs.Match.{image, Matches}
 use Rattle.rule_core.specs.Validity.{IsValid}
 use Rattle.rule_core.specs.Snapshot.{snapshot_at}
 use Rattle.rule_core.specs.Coalesced.{IsCoalesced}
-use Rattle.rule_core.specs.Homomorphism.{term_image, fact_image, Homomorphism}
+use Rattle.rule_core.specs.Homomorphism.{fact_image, Homomorphism}
 use Rattle.rule_core.specs.Solution.{EgdHolds, IsSolution, IsUniversal}
-use Rattle.rule_core.specs.Firing.{Fires, fired_facts, IsFiringFact}
-use Rattle.rule_core.proofs.ListLemmas.{Contains-from_map, All-from_map}
-use Rattle.rule_core.proofs.SnapshotLemmas.{snapshot_covers, covered_in_snapshot}
-use Rattle.fact_table.specs.declared.fact.Fact.{Fact}
-use Rattle.fact_table.specs.Rows.{rows_of}
-use Rattle.fact_table.specs.Snapshots.{facts_of, with_terms}
+use Rattle.rule_core.specs.Firing.{IsFiringFact}
+use Rattle.rule_core.proofs.ListLemmas.{All-from_map}
+use Rattle.rule_core.proofs.SetLemmas.{Matches-within}
+use Rattle.rule_core.proofs.SnapshotLemmas.{covered_in_snapshot}
+use Rattle.fact_table.specs.Snapshots.{stamped_facts, snapshot_of, with_terms}
 use Rattle.body_match.proofs.ListLemmas.{contains_from_at, zip_from_each}
 use Rattle.body_match.proofs.SearchLemmas.{some_and, same_some}
-use Rattle.fact_table.specs.Snapshots.{snapshot_of}
-use Rattle.normaliser.specs.Normalised.{HaveSameSnapshots}
+use Rattle.failure_trace.proofs.SnapshotSteps.{shown}
 use Rattle.tgd_chase.specs.Fired.{HoldFiringFacts, IsGround}
-use Rattle.exchange_engine.specs.Solved.{TermTable, AreCoalesced, AreTargetTables, AreUnknownsOf, IsUnknownOf, IsTermWithin, IsMadeBy}
+use Rattle.egd_chase.specs.Settled.{AreSettledForm}
 use Rattle.exchange_engine.specs.Loading.{LoadedOf, HasEachConstant}
-use Rattle.exchange_engine.specs.Grouped.{table_facts, HoldSnapshotsOf}
+use Rattle.exchange_engine.specs.Solved.{TermTable, AreCoalesced, AreTargetTables, AreUnknownsOf, IsUnknownOf, IsTermWithin, IsMadeBy, HoldSnapshotsOf}
+use Rattle.exchange_engine.specs.Grouped.{table_facts}
 use Rattle.exchange_engine.proofs.TableFactLemmas.{Entry, TargetFact, fact_for, in_facts}
-use Rattle.exchange_engine.proofs.MadeLemmas.{IsConstantBelow, HasConstantsBelow, IsTermMade, IsMade, firing_fact_made}
+use Rattle.exchange_engine.proofs.MadeLemmas.{IsTermMade, IsMade}
+use Rattle.exchange_engine.proofs.SourceLemmas.{ground}
 
--- firing facts of instances that hold the same
+-- what an instance is where the firing facts are told: a solution is one in which every egd holds and into which they map
+abbrev pub SolutionLaw : Type 0
+SolutionLaw = (rules : RuleSet) → IsValid rules → (source target : List (FactOf ConstId)) → IsGround source
+    → IsSolution (λ c. c) rules source target
+    ↔ (All (λ egd. EgdHolds (λ c. c) egd target) rules.egds × Homomorphism (IsFiringFact (λ c. c) rules source) target)
 
-fact_moves : (rules : RuleSet) (a b : List (FactOf ConstId)) → ((fact : FactOf ConstId) → Contains a fact → Contains b fact)
-    → (fact : FactOf ConstId) → IsFiringFact (λ c. c) rules a fact → IsFiringFact (λ c. c) rules b fact
-fact_moves rules a b moves fact k = (k.0, by (slice_get rules.tgds k.0) k.1)
-  where
-    matches : (binding : ℕ → TermOf ConstId) (body : List Atom) → Matches (λ c. c) binding body a → Matches (λ c. c) binding body b
-    matches binding body m j d l = moves (image (λ c. c) binding (get_or body j d)) (m j d l)
-
-    by : (o : Option Tgd)
-        → IsSomeAnd o (λ tgd. (values : List ConstId) × Fires (λ c. c) tgd a values × Contains (fired_facts (λ c. c) k.0 tgd values) fact)
-        → IsSomeAnd o (λ tgd. (values : List ConstId) × Fires (λ c. c) tgd b values × Contains (fired_facts (λ c. c) k.0 tgd values) fact)
-    by None h = h
-    by (Some tgd) h = (h.0, (h.1.0, matches (λ v. constant (h.1.0 v)) tgd.body h.1.1, h.1.2), h.2)
-
--- a fact under the map that leaves each unknown
-
-same_term : (term : TermOf ConstId) → term_image (λ u. unknown u) term ≡ term
-same_term (constant c) = refl
-same_term (unknown u) = refl
-
-same_terms : (terms : List (TermOf ConstId)) → map (term_image (λ u. unknown u)) terms ≡ terms
-same_terms [] = refl
-same_terms (term ∷ terms) = λ i. same_term term i ∷ same_terms terms i
-
-same_fact : (fact : FactOf ConstId) → fact_image (λ u. unknown u) fact ≡ fact
-same_fact fact = λ i. record { relation = fact.relation; terms = same_terms fact.terms i }
-
--- the snapshots of a table
-
-module _ (table : List Fact) (rows_are : facts_of (rows_of table) ≡ map with_terms table) (size : ℕ)
-    (low : All (λ fact. All (λ c. c.0 < size) fact.row) table) (t : ℤ) where
-  -- what a snapshot holds is a fact of the table
-  from_snapshot : (fact : FactOf ConstId) → Contains (snapshot_of table t) fact
-      → (held : Fact) × Contains table held × ((with_terms held).row ≡ fact)
-  from_snapshot fact c =
-      let at = snapshot_covers (facts_of (rows_of table)) fact t c in
-      let held = Contains-from_map with_terms table at.1 (subst (λ (l : List TargetFact). Contains l at.1) rows_are (at.0, at.2, at.3)) in
-      (held.0, held.1, ap (λ (x : TargetFact). x.row) held.2 ∙ at.4.0)
-
-  constants_low : All (HasConstantsBelow size) (snapshot_of table t)
-  constants_low k d l =
-      let fact = get_or (snapshot_of table t) k d in
-      let h = from_snapshot fact (Contains-get_or (snapshot_of table t) k d l) in
-      let row = All-contains (λ (f : Fact). All (λ (c : ConstId). c.0 < size) f.row) table h.0 low h.1 in
-      subst (HasConstantsBelow size) h.2
-      (All-map (IsConstantBelow size) constant h.0.row (λ j e m. (get_or h.0.row j e, refl, row j e m)))
-
-  ground : IsGround (snapshot_of table t)
-  ground k d l j e m = let term = constants_low k d l j e m in (term.0, term.1)
-
--- the tables
-
--- what comes of a mapping and a source: the source in pieces, the rows of its firings, and the tables of these rows
-pub record IsChased (loaded : LoadedOf) (pieces : List Fact) (rows : List TargetFact) (tables : List TermTable) : Type 0 where
+-- what comes of a mapping and its source: rows that hold the firing facts, what these were settled to, and the tables of that
+pub record IsChased (loaded : LoadedOf) (rows last : List TargetFact) (tables : List TermTable) : Type 0 where
   pub valid : IsValid loaded.rules
-  pub same : HaveSameSnapshots loaded.table pieces
-  pub hold : HoldFiringFacts loaded.rules pieces rows
+  pub hold : HoldFiringFacts loaded.rules loaded.table rows
+  pub form : AreSettledForm loaded.rules rows last
+  pub made : All (λ row. IsMade loaded.rules (length loaded.pool) row.row) last
   pub size : length tables ≡ length loaded.rules.targets
   pub coalesced : AreCoalesced tables
-  pub snapshots : HoldSnapshotsOf rows tables
+  pub snapshots : HoldSnapshotsOf last tables
 
-module _ (loaded : LoadedOf) (has : HasEachConstant loaded) (rows_are : facts_of (rows_of loaded.table) ≡ map with_terms loaded.table)
-    (pieces : List Fact) (rows : List TargetFact) (tables : List TermTable) (chased : IsChased loaded pieces rows tables) where
+module _ (loaded : LoadedOf) (has : HasEachConstant loaded) (rows_are : stamped_facts loaded.table ≡ map with_terms loaded.table)
+    (rows last : List TargetFact) (tables : List TermTable) (chased : IsChased loaded rows last tables) where
   abbrev rules : RuleSet
   rules = loaded.rules
 
@@ -116,34 +68,28 @@ module _ (loaded : LoadedOf) (has : HasEachConstant loaded) (rows_are : facts_of
   abbrev target : ℤ → List (FactOf ConstId)
   target t = snapshot_at (table_facts tables) t
 
-  -- they hold the firing facts of the source
-  target_is : (t : ℤ) (fact : FactOf ConstId) → Contains (target t) fact ↔ IsFiringFact (λ c. c) rules (source t) fact
-  target_is t fact = (
-    λ c. fact_moves rules (snapshot_of pieces t) (source t) (λ f. (chased.same t f).1) fact
-        ((chased.hold t fact).0 ((chased.snapshots t fact).0 c)),
-    λ k. (chased.snapshots t fact).1
-        ((chased.hold t fact).1 (fact_moves rules (source t) (snapshot_of pieces t) (λ f. (chased.same t f).0) fact k)),
-  )
+  egds_hold : (t : ℤ) → All (λ egd. EgdHolds (λ c. c) egd (target t)) rules.egds
+  egds_hold t k d l = λ binding m. chased.form.hold t k d l binding
+      (Matches-within (λ c. c) binding (get_or rules.egds k d).body (target t) (snapshot_at last t) (λ fact. (chased.snapshots t fact).0) m)
 
-  pub universal : (none : rules.egds ≡ [])
-      → ((rules : RuleSet) → IsValid rules → (source target : List (FactOf ConstId)) → IsGround source
-      → IsSolution (λ c. c) rules source target
-      ↔ (All (λ egd. EgdHolds (λ c. c) egd target) rules.egds × Homomorphism (IsFiringFact (λ c. c) rules source) target))
-      → (t : ℤ) → IsUniversal (λ c. c) rules (source t) (target t)
-  universal none law t =
-      let itself : Homomorphism (IsFiringFact (λ c. c) rules (source t)) (target t) = record {
-        of_unknown = λ u. unknown u;
-        into = λ fact k. subst (Contains (target t)) (sym (same_fact fact)) ((target_is t fact).1 k);
+  pub universal : SolutionLaw → (t : ℤ) → IsUniversal (λ c. c) rules (source t) (target t)
+  universal law t =
+      let constants = ground loaded.table rows_are size has.facts t in
+      let maps = chased.form.maps t in
+      let into : Homomorphism (IsFiringFact (λ c. c) rules (source t)) (target t) = record {
+        of_unknown = maps.of_unknown;
+        into = λ fact k. (chased.snapshots t (fact_image maps.of_unknown fact)).1 (maps.into fact ((chased.hold t fact).1 k));
       } in
-      let egds = subst (All (λ egd. EgdHolds (λ c. c) egd (target t))) (sym none) (All-nil (λ egd. EgdHolds (λ c. c) egd (target t))) in
       record {
-        solution = (law rules chased.valid (source t) (target t) (ground loaded.table rows_are size has.facts t)).1 (egds, itself);
+        solution = (law rules chased.valid (source t) (target t) constants).1 (egds_hold t, into);
         maps = λ other solution.
-            let h = ((law rules chased.valid (source t) other (ground loaded.table rows_are size has.facts t)).0 solution).1 in
-            record { of_unknown = h.of_unknown; into = λ fact c. h.into fact ((target_is t fact).0 c) };
+            let h = (law rules chased.valid (source t) other constants).0 solution in
+            let least = chased.form.least t other
+            (h.0, record { of_unknown = h.1.of_unknown; into = λ fact c. h.1.into fact ((chased.hold t fact).0 c) }) in
+            record { of_unknown = least.of_unknown; into = λ fact c. least.into fact ((chased.snapshots t fact).0 c) };
       }
 
-  -- an entry holds at some instant, and so is a firing fact
+  -- an entry holds at some instant, and so is a fact of a row
   made_in : (k : ℕ) (list : TermTable) (e : Entry) → slice_get tables k ≡ Some list → Contains list e → IsMade rules size (fact_for k e).row
   made_in k list e at c =
       let inside = contains_from_at tables k list at in
@@ -152,9 +98,8 @@ module _ (loaded : LoadedOf) (has : HasEachConstant loaded) (rows_are : facts_of
       let there = in_facts tables k list e at c in
       let fact = (fact_for k e).row in
       let held = covered_in_snapshot (table_facts tables) fact instant.0 (there.0, fact_for k e, there.1, there.2, (refl, instant.1)) in
-      let low = constants_low loaded.table rows_are size has.facts instant.0 in
-      firing_fact_made rules chased.valid size has.rules (source instant.0) low fact
-      ((target_is instant.0 fact).0 held)
+      let row = shown instant.0 last fact ((chased.snapshots instant.0 fact).0 held) in
+      subst (IsMade rules size) row.2 (All-contains (λ (r : TargetFact). IsMade rules size r.row) last row.0 chased.made row.1)
 
   terms_in : (k : ℕ) (list : TermTable) (e : Entry) → slice_get tables k ≡ Some list → Contains list e
       → All (λ term. IsTermMade rules size (term_value term)) e.row

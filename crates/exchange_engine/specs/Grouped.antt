@@ -10,7 +10,6 @@ use Rattle.term_core.specs.Order.{term_cmp}
 use Rattle.rule_core.specs.Terms.{StampedOf, FactOf}
 use Rattle.rule_core.specs.Values.{term_value, table_value}
 use Rattle.rule_core.specs.Tables.{facts_of}
-use Rattle.rule_core.specs.Snapshot.{snapshot_at}
 use Rattle.rule_core.specs.Coalesced.{Covers, IsCoalesced}
 use Rattle.fact_table.specs.Rows.{SeenRow, row_at}
 use Rattle.null_store.specs.Store.{Store, term_in, fact_in, facts_in}
@@ -43,11 +42,6 @@ AddsRow store number old new = (fact : StampedOf (FactOf ConstId))
 pub record IsCoalescedFrom (list table : TermTable) : Type 0 where
   pub coalesced : IsCoalesced (slice_cmp term_cmp) table
   pub covers : (row : List Term) (t : ℤ) → Covers table row t ↔ Covers list row t
-
--- at every instant the tables hold what these rows do
-abbrev pub HoldSnapshotsOf : List (StampedOf (FactOf ConstId)) → List TermTable → Type 0
-HoldSnapshotsOf rows tables = (t : ℤ) (fact : FactOf ConstId)
-    → Contains (snapshot_at (table_facts tables) t) fact ↔ Contains (snapshot_at rows t) fact
 
 -- the unknown is a term of the row, or of a row of the table
 abbrev pub IsUnknownIn : List Term → HeldUnknown → Type 0

@@ -1,8 +1,9 @@
 -- What an exchange gives where it is solved.
-use Rattle.std.specs.Prelude.{◌≡◌, ◌↔◌, ℕ, ◌<◌, ◌+◌, ℤ, List, [], map, length, slice_get, All, AllPairs, Any, Contains, IsSomeAnd}
+use Rattle.std.specs.Prelude.{◌≡◌, ◌↔◌, ℕ, ◌<◌, ◌+◌, ℤ, List, map, length, sum_by, slice_get, All, AllPairs, Any, Contains, IsSomeAnd, ⊤}
 use Rattle.std.specs.List.{AllZip}
 use Rattle.std.specs.declared.cmp.Ordering.TheVariants.{Less}
 use Rattle.std.specs.Cmp.Lexicographic.{slice_cmp}
+use Rattle.term_core.specs.declared.const_id.ConstId.{ConstId}
 use Rattle.term_core.specs.declared.term.Unknown.{Unknown as HeldUnknown}
 use Rattle.term_core.specs.declared.term.Term.{Term}
 use Rattle.term_core.specs.declared.term.Term.TheVariants.{Const, Null}
@@ -13,16 +14,14 @@ use Rattle.rule_core.specs.Terms.{StampedOf}
 use Rattle.rule_core.specs.Values.{table_value}
 use Rattle.rule_core.specs.Tables.{facts_of}
 use Rattle.rule_core.specs.Snapshot.{snapshot_at}
+use Rattle.rule_core.specs.Renaming.{HoldTheSame}
 use Rattle.rule_core.specs.Solution.{IsUniversal}
 use Rattle.rule_core.specs.Coalesced.{IsCoalesced}
 use Rattle.rule_core.specs.Firing.{frontier_of}
-use Rattle.fact_table.specs.declared.fact.Fact.{Fact}
-use Rattle.fact_table.specs.Snapshots.{snapshot_of, stamped_facts}
-use Rattle.normaliser.specs.Normalised.{IsNormalised}
-use Rattle.failure_trace.specs.declared.firing.Firing.{Firing}
-use Rattle.failure_trace.specs.Firings.{AreFirings}
+use Rattle.fact_table.specs.Snapshots.{snapshot_of}
+use Rattle.failure_trace.specs.JournalRun.{RowOf, IsRun}
 use Rattle.exchange_engine.specs.Loading.{LoadedOf}
-use Rattle.exchange_engine.specs.declared.outcome.Counts.{Counts}
+use Rattle.exchange_engine.specs.Ran.{AreFiredOn, rows_for, CountsPieces}
 use Rattle.exchange_engine.specs.declared.outcome.Solved.{Solved}
 use Rattle.exchange_engine.specs.declared.outcome.Outcome.{Outcome}
 use Rattle.exchange_engine.specs.declared.outcome.Outcome.TheVariants as outcome
@@ -68,17 +67,27 @@ abbrev pub IsMadeBy : RuleSet → HeldUnknown → Type 0
 IsMadeBy rules u = IsSomeAnd (slice_get rules.tgds u.rule)
     (λ tgd. (length u.frontier ≡ length (frontier_of tgd)) × (tgd.body_vars + u.var < length tgd.vars))
 
--- the normalised table of the source has so many facts, and so many firings come of it; nothing was made equal or cut
-abbrev pub AreCountsOf : LoadedOf → Counts → Type 0
-AreCountsOf loaded counts = (pieces : List Fact) × (firings : List Firing)
-    × IsNormalised loaded.rules loaded.table pieces × AreFirings loaded.rules (stamped_facts pieces) firings
-    × (counts.pieces ≡ length pieces) × (counts.firings ≡ length firings) × (counts.steps ≡ 0) × (counts.cuts ≡ 0)
+-- how much was done: the facts of the normalised table, the firings, the steps of the journal, and the cuts that these note
+pub record AreCountsOf (loaded : LoadedOf) (solved : Solved) : Type 0 where
+  pub pieces : CountsPieces loaded solved.counts.pieces
+  pub firings : solved.counts.firings ≡ length solved.firings
+  pub steps : solved.counts.steps ≡ length solved.journal
+  pub cuts : solved.counts.cuts ≡ sum_by (λ step. length step.cuts) solved.journal
 
--- what holds of what was solved
+-- at every instant the tables hold what these rows do
+abbrev pub HoldSnapshotsOf : List (RowOf ConstId) → List TermTable → Type 0
+HoldSnapshotsOf rows tables = (t : ℤ)
+    → HoldTheSame (snapshot_at (facts_of (map table_value tables)) t) (snapshot_at rows t)
+
+-- the run behind it: the firings are those on the normalised table; the journal is an allowed run from their rows to such as the
+-- tables hold at every instant
+pub record IsRunOf (loaded : LoadedOf) (solved : Solved) : Type 0 where
+  pub fired : AreFiredOn loaded solved.firings
+  pub last : List (RowOf ConstId)
+  pub run : IsRun loaded.rules (rows_for loaded solved.firings) solved.journal last
+  pub same : HoldSnapshotsOf last solved.tables
+
+-- what is so of what was solved
 abbrev pub IfSolved : Outcome → (Solved → Type 0) → Type 0
 IfSolved (outcome.Solved solved) P = P solved
-
--- no egd and no query
-pub record IsPlain (rules : RuleSet) : Type 0 where
-  pub egds : rules.egds ≡ []
-  pub queries : rules.queries ≡ []
+IfSolved (outcome.Failed trace) P = ⊤

@@ -1,6 +1,7 @@
 //! What an exchange gives.
 
 use coalescer::Stamped;
+use failure_trace::{Firing, JournalStep, Trace};
 use term_core::{Items, Unknown};
 
 /// How much was done on the way.
@@ -27,11 +28,17 @@ pub struct Solved {
     pub nulls: Items<Unknown>,
     /// How much was done.
     pub counts: Counts,
+    /// The firings, in order of rule, frontier and span, with the matches that support them.
+    pub firings: Items<Firing>,
+    /// How values were made equal, step by step.
+    pub journal: Items<JournalStep>,
 }
 
-/// How an exchange ends. A mapping without equalities always has a solution.
+/// How an exchange ends.
 #[derive(Debug, Drop)]
 pub enum Outcome {
     /// Every instant has a solution, and this is the least.
     Solved(Solved),
+    /// Two different constants were to be equal: the trace of an instant that has no solution.
+    Failed(Trace),
 }

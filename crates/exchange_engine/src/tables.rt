@@ -5,8 +5,8 @@ ghost use Rattle.std.specs.Option.{IfSome};
 ghost use Rattle.rule_core.specs.Values.{term_value};
 ghost use Rattle.fact_table.specs.Rows.{HasCell, row_at, head_at, cell_at};
 ghost use Rattle.null_store.specs.Store.{facts_in, term_in};
-ghost use Rattle.exchange_engine.specs.Solved.{AreCoalesced};
-ghost use Rattle.exchange_engine.specs.Grouped.{AreBelow, IsRowOf, HaveFacts, AddsRow, HoldSnapshotsOf};
+ghost use Rattle.exchange_engine.specs.Solved.{AreCoalesced, HoldSnapshotsOf};
+ghost use Rattle.exchange_engine.specs.Grouped.{AreBelow, IsRowOf, HaveFacts, AddsRow};
 
 use coalescer::{Stamped, coalesce};
 use fact_table::{FactSource, RowHead};

@@ -1,9 +1,8 @@
 -- A mapping that could not be fetched, or has a fault, is the first failure.
 use Rattle.std.proofs.Common.{refl}
 use Rattle.std.proofs.lemmas.Result.{err_from_is_err_and}
-use Rattle.exchange_cli.specs.Work.{mapping_limit}
+use Rattle.exchange_cli.specs.Work.{RefusesMapping, mapping_limit}
 use Rattle.exchange_cli.specs.Run.{device}
-use Rattle.exchange_cli.specs.Steps.{HasMappingFault}
 use Rattle.exchange_cli.specs.declared.ending.Ending.TheVariants.{Mapping}
 use Rattle.exchange_cli.proofs.StepLemmas.{fetch_stops, fault_stops}
 use Rattle.exchange_cli.proofs.inputs.fetch_mapping.Goals as goal
@@ -12,12 +11,12 @@ pub returns-in_err-bytes-clause-stops : goal.returns-in_err-bytes-clause-stops
 returns-in_err-bytes-clause-stops g c =
     let p = err_from_is_err_and c.from_residual-in_err-bytes.result c.from_residual-in_err-bytes.ensures.1 in
     rw (p.1, p.2) (fetch_stops (g.S.Shelf.holds c.args.shelf.now) (g.S.Shelf.faults c.args.shelf.now)
-    (device (g.S.Shelf.holds c.fetch.new.shelf) (g.S.Shelf.faults c.fetch.new.shelf)) c.args.name.now mapping_limit HasMappingFault
+    (device (g.S.Shelf.holds c.fetch.new.shelf) (g.S.Shelf.faults c.fetch.new.shelf)) c.args.name.now mapping_limit RefusesMapping
     c.in_err-bytes.field-0.0 (rw c.in_ok-name.ensures at c.in_err-bytes.ensures.fails))
 
 pub returns-in-Err-Fault-clause-stops : goal.returns-in-Err-Fault-clause-stops
 returns-in-Err-Fault-clause-stops g c =
     fault_stops (g.S.Shelf.holds c.args.shelf.now) (g.S.Shelf.faults c.args.shelf.now)
     (device (g.S.Shelf.holds c.fetch.new.shelf) (g.S.Shelf.faults c.fetch.new.shelf)) c.args.name.now c.in_ok-bytes.bytes mapping_limit
-    HasMappingFault (Mapping c.in-Err-Fault.fault) (rw c.in_ok-name.ensures at c.in_ok-bytes.ensures.gives)
+    RefusesMapping (Mapping c.in-Err-Fault.fault) (rw c.in_ok-name.ensures at c.in_ok-bytes.ensures.gives)
     (c.in_ok-bytes.bytes, refl, rw (c.as_slice.ensures, c.in-Err-Fault.field-0-is) at c.in-Err-Fault.ensures.fault) (λ n e. cc)

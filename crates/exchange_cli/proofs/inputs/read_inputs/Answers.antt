@@ -1,13 +1,9 @@
 -- What is read before the first store, or where the run stops.
-use Rattle.std.proofs.Common.{sym, ap, subst, ◌∙◌}
-use Rattle.std.proofs.lemmas.Bool.{false≢true}
 use Rattle.std.proofs.lemmas.Result.{err_from_is_err_and}
-use Rattle.mapping_core.specs.Mapping.{Meaning}
-use Rattle.exchange_cli.specs.Words.{Origin}
-use Rattle.exchange_cli.specs.Built.{Takes}
 use Rattle.exchange_cli.specs.Commands.{command_of}
 use Rattle.exchange_cli.specs.Run.{device}
-use Rattle.exchange_cli.proofs.StepLemmas.{mapping_stops, not_built_stops, tables_stop, reads_all, stops_since}
+use Rattle.exchange_cli.specs.Steps.{read_of}
+use Rattle.exchange_cli.proofs.TraceStepLemmas.{origin_stops, trace_stops, reads_all}
 use Rattle.exchange_cli.proofs.inputs.read_inputs.Goals as goal
 
 pub returns-in_err-mapping-clause-stops : goal.returns-in_err-mapping-clause-stops
@@ -15,45 +11,28 @@ returns-in_err-mapping-clause-stops g c =
     let holds = g.S.Shelf.holds in
     let faults = g.S.Shelf.faults in
     let p = err_from_is_err_and c.from_residual.result c.from_residual.ensures.1 in
-    rw (p.1, p.2) (mapping_stops (device (holds c.args.shelf.now) (faults c.args.shelf.now))
-    (device (holds c.fetch_mapping.new.shelf) (faults c.fetch_mapping.new.shelf)) (command_of c.args.command.now)
-    c.origin-origin.result.mapping.now c.in_err-mapping.field-0.0 (ap (λ (o : Origin). o.mapping) c.origin-origin.ensures)
-    c.in_err-mapping.ensures.stops)
+    rw (p.1, p.2) (origin_stops (device (holds c.args.shelf.now) (faults c.args.shelf.now))
+    (device (holds c.read_source.new.shelf) (faults c.read_source.new.shelf)) (command_of c.args.command.now)
+    c.in_err-mapping.field-0.0 c.in_err-mapping.ensures.stops)
 
-pub returns-then-not-takes-clause-stops : goal.returns-then-not-takes-clause-stops
-returns-then-not-takes-clause-stops g c =
+pub returns-in_err-trace-clause-stops : goal.returns-in_err-trace-clause-stops
+returns-in_err-trace-clause-stops g c =
     let holds = g.S.Shelf.holds in
     let faults = g.S.Shelf.faults in
-    let command = command_of c.args.command.now in
-    not_built_stops (device (holds c.args.shelf.now) (faults c.args.shelf.now))
-    (device (holds c.fetch_mapping.new.shelf) (faults c.fetch_mapping.new.shelf)) command
-    c.origin-origin.result.mapping.now c.in_ok-mapping.mapping (ap (λ (o : Origin). o.mapping) c.origin-origin.ensures)
-    c.in_ok-mapping.ensures.reads (λ taken. false≢true (sym c.if-not-takes.true
-    ∙ c.takes.ensures.1 (subst (λ (m : Meaning). Takes command m.rules) (sym c.mapping.view_is) taken)))
-
-pub returns-in_err-tables-clause-stops : goal.returns-in_err-tables-clause-stops
-returns-in_err-tables-clause-stops g c =
-    let holds = g.S.Shelf.holds in
-    let faults = g.S.Shelf.faults in
-    let command = command_of c.args.command.now in
     let before = device (holds c.args.shelf.now) (faults c.args.shelf.now) in
-    let middle = device (holds c.fetch_mapping.new.shelf) (faults c.fetch_mapping.new.shelf) in
-    let after = device (holds c.fetch_tables.new.shelf) (faults c.fetch_tables.new.shelf) in
-    let takes = subst (λ (m : Meaning). Takes command m.rules) c.mapping.view_is (c.takes.ensures.0 c.if-not-takes.false) in
-    let p = err_from_is_err_and c.from_residual-in_err-tables.result c.from_residual-in_err-tables.ensures.1 in
-    rw (p.1, p.2) (tables_stop before after command c.origin-origin.result.mapping.now c.origin-origin.result.source.now
-    c.in_ok-mapping.mapping c.in_err-tables.field-0.0 (ap (λ (o : Origin). o.mapping) c.origin-origin.ensures)
-    (ap (λ (o : Origin). o.source) c.origin-origin.ensures)
-    c.in_ok-mapping.ensures.reads takes
-    (stops_since before middle after c.origin-origin.result.source.now c.in_ok-mapping.mapping.rules.sources c.in_err-tables.field-0.0
-    c.in_ok-mapping.ensures.keeps c.in_err-tables.ensures.keeps c.in_err-tables.ensures.stops))
+    let middle = device (holds c.read_source.new.shelf) (faults c.read_source.new.shelf) in
+    let after = device (holds c.fetch_trace.new.shelf) (faults c.fetch_trace.new.shelf) in
+    let p = err_from_is_err_and c.from_residual-in_err-trace.result c.from_residual-in_err-trace.ensures.1 in
+    rw (p.1, p.2) (trace_stops before middle after (command_of c.args.command.now) c.in_ok-mapping.field-0.mapping
+    c.in_ok-mapping.field-0.tables c.in_err-trace.field-0.0 c.in_ok-mapping.ensures.keeps c.in_err-trace.ensures.keeps
+    c.in_ok-mapping.ensures.reads c.in_err-trace.ensures.stops)
 
 pub returns-clause-reads : goal.returns-clause-reads
 returns-clause-reads g c =
-    let command = command_of c.args.command.now in
-    reads_all (g.S.Shelf.holds c.args.shelf.now) command c.origin-origin.result.mapping.now c.origin-origin.result.source.now
-    c.in_ok-mapping.mapping c.in_ok-tables.tables (ap (λ (o : Origin). o.mapping) c.origin-origin.ensures)
-    (ap (λ (o : Origin). o.source) c.origin-origin.ensures)
-    c.in_ok-mapping.ensures.reads
-    (subst (λ (m : Meaning). Takes command m.rules) c.mapping.view_is (c.takes.ensures.0 c.if-not-takes.false))
-    (rw c.in_ok-mapping.ensures.keeps.same at c.in_ok-tables.ensures.reads)
+    reads_all (g.S.Shelf.holds c.args.shelf.now) (command_of c.args.command.now)
+    (read_of (record {
+      mapping = c.in_ok-mapping.field-0.mapping;
+      tables = c.in_ok-mapping.field-0.tables;
+      trace = c.in_ok-trace.trace;
+    })) c.in_ok-mapping.ensures.reads
+    (rw c.in_ok-mapping.ensures.keeps.same at c.in_ok-trace.ensures.reads)

@@ -13,14 +13,14 @@ returns-in-Mapping g c = rw c.in-Mapping.is c.say_mapping.ensures
 pub returns-in-Table : goal.returns-in-Table
 returns-in-Table g c = rw c.in-Table.is c.say_table.ensures
 
+pub returns-in-Trace : goal.returns-in-Trace
+returns-in-Trace g c = rw c.in-Trace.is c.say_trace.ensures
+
 pub returns-in-Read : goal.returns-in-Read
 returns-in-Read g c = rw c.in-Read.is (rw c.as_bytes-in-Read.ensures.value at c.say-in-Read.ensures)
 
 pub returns-in-Write : goal.returns-in-Write
 returns-in-Write g c = rw c.in-Write.is (rw c.as_bytes-in-Write.ensures.value at c.say-in-Write.ensures)
-
-pub returns-in-NotBuilt : goal.returns-in-NotBuilt
-returns-in-NotBuilt g c = rw c.in-NotBuilt.is c.say-in-NotBuilt.ensures
 
 pub returns-in-Output : goal.returns-in-Output
 returns-in-Output g c = rw c.in-Output.is c.say-in-Output.ensures

@@ -1,66 +1,31 @@
--- What the exchange gives is, as it is stored, the target.
-use Rattle.std.proofs.Common.{◌≡◌, List, map, ap, refl, subst, ◌∙◌}
-use Rattle.rule_core.specs.declared.rules.Relation.{Relation}
-use Rattle.rule_core.specs.Mapping.{RuleSet}
-use Rattle.exchange_cli.specs.Answers.{answer_relation}
-use Rattle.exchange_cli.specs.Rendering.{stored_table}
+-- What is made of an outcome is a target, or a certificate.
+use Rattle.std.proofs.Common.{inl, inr}
+use Rattle.std.specs.Prelude.{◌⊎◌}
+use Rattle.std.proofs.lemmas.Result.{IfOk-weaker}
+use Rattle.exchange_cli.specs.Certificate.{Refutes, IsUnsolved}
+use Rattle.exchange_cli.specs.Exchanged.{IsLoadedFrom, IsFailedFrom}
+use Rattle.exchange_cli.specs.Inputs.{Inputs}
+use Rattle.exchange_cli.specs.Product.{IsSolved}
 use Rattle.exchange_cli.specs.Steps.{read_of}
-use Rattle.exchange_cli.specs.Target.{AreTableFiles}
-use Rattle.exchange_cli.proofs.CertainLemmas.{answers_wide, answers_within, same_relations}
 use Rattle.exchange_cli.proofs.solving.solve.Goals as goal
 
-pub render-requires-clause-answers : goal.render-requires-clause-answers
-render-requires-clause-answers c =
-    answers_wide c.in_ok-loaded.loaded c.in_ok-solved.solved.answers c.in_ok-solved.ensures.answers
-
-pub render-requires-clause-answers_within : goal.render-requires-clause-answers_within
-render-requires-clause-answers_within c =
-    answers_within c.in_ok-loaded.loaded c.in_ok-solved.solved.answers c.in_ok-solved.ensures.answers
+pub returns-in-Solved : goal.returns-in-Solved
+returns-in-Solved c =
+    let inputs = read_of c.args.inputs in
+    let target = c.args.target.now in
+    let loaded = c.in_ok-loaded.loaded in
+    IfOk-weaker c.tell.result (λ product. (i : Inputs) → IsLoadedFrom i loaded → IsSolved i target product)
+    (λ product. IsSolved inputs target product ⊎ IsUnsolved inputs target product)
+    (λ product made. inl (made inputs c.in_ok-loaded.ensures)) c.tell.ensures
 
 pub returns : goal.returns
 returns c =
     let inputs = read_of c.args.inputs in
-    let loaded = c.in_ok-loaded.loaded in
-    let solved = c.in_ok-solved.solved in
     let target = c.args.target.now in
-    let from = c.in_ok-loaded.ensures in
-    let rendered = c.in_ok-render.ensures in
-    let counts = c.in_ok-solved.ensures.counts in
-    let same : loaded.rules.targets ≡ inputs.mapping.rules.targets = ap (λ (r : RuleSet). r.targets) from.rules.2 in
-    let answered : map answer_relation loaded.rules.queries ≡ map answer_relation inputs.mapping.rules.queries =
-    ap (λ (r : RuleSet). map answer_relation r.queries) from.rules.2 ∙ same_relations from.rules.0 inputs.mapping.rules.queries in
-    record {
-      groups = rendered.groups;
-      each = record {
-        tables = record {
-          tables = map (stored_table loaded.pool solved.nulls) solved.tables;
-          target = c.stored_tables_are_a_target.ensures inputs loaded solved from c.in_ok-solved.ensures;
-          each =
-              subst (λ (relations : List Relation). AreTableFiles target relations rendered.groups.tables
-              (map (stored_table loaded.pool solved.nulls) solved.tables)) same rendered.named;
-        };
-        answers = record {
-          tables = map (stored_table loaded.pool solved.nulls) solved.answers;
-          certain = c.stored_answers_are_certain.ensures inputs loaded solved from c.in_ok-solved.ensures;
-          each =
-              subst (λ (relations : List Relation). AreTableFiles target relations rendered.groups.answers
-              (map (stored_table loaded.pool solved.nulls) solved.answers)) answered rendered.answers;
-        };
-        verdict = rendered.verdict;
-      };
-      files = rendered.all;
-      pieces = solved.counts.pieces;
-      firings = solved.counts.firings;
-      counts = record {
-        loaded = loaded;
-        from = from;
-        normalised = counts.0;
-        pieced = counts.2;
-        fired = counts.1;
-        each = counts.3;
-        pieces_are = counts.4;
-        firings_are = counts.5;
-      };
-      found = refl;
-      line = c.in_ok-printed_line.ensures;
-    }
+    let loaded = c.in_ok-loaded.loaded in
+    let trace = c.in-Failed.trace in
+    let given : IsFailedFrom loaded trace = rw c.in-Failed.is at c.in_ok-outcome.ensures.failed in
+    let shows = c.a_given_trace_refutes.ensures inputs loaded trace c.in_ok-loaded.ensures given.accepted in
+    IfOk-weaker c.refute.result (λ product. (i : Inputs) → Refutes i trace → IsUnsolved i target product)
+    (λ product. IsSolved inputs target product ⊎ IsUnsolved inputs target product)
+    (λ product made. inr (made inputs shows)) c.refute.ensures

@@ -2,7 +2,7 @@
 use Rattle.std.proofs.Common.{map, string_bytes}
 use Rattle.exchange_cli.specs.Run.{device, seen, Ends}
 use Rattle.exchange_cli.specs.Headline.{CompletesClause}
-use Rattle.exchange_cli.proofs.HeadlineLemmas.{words_clause, answer_clause, refusal_clause, completes_clause, output_clause, store_clause, status_clause, target_clause, answers_clause, pieces_clause}
+use Rattle.exchange_cli.proofs.HeadlineLemmas.{words_clause, answer_clause, refusal_clause, completes_clause, output_clause, store_clause, status_clause, target_clause, answers_clause, counts_clause, certificate_clause, pieces_clause, snapshot_clause, check_clause}
 use Rattle.exchange_cli.proofs.top.run.Goals as goal
 
 pub returns : goal.returns
@@ -35,5 +35,9 @@ returns g c =
       status = status_clause words before after status completes;
       target = target_clause words before after status completes;
       answers = answers_clause words before after status completes;
+      counts = counts_clause words before after status completes;
+      certificate = certificate_clause words before after status completes;
       pieces = pieces_clause words before after status completes;
+      snapshot = snapshot_clause words before after status completes;
+      checks = check_clause words before after status completes;
     }
