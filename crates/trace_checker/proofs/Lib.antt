@@ -8,3 +8,4 @@ pub mod CheckLemmas
 pub mod NewLemmas
 pub mod ListedLemmas
 pub mod PartwayLemmas
+pub mod NumberLemmas

@@ -1,6 +1,6 @@
 //! The facts of a state.
 
-ghost use Rattle.std.specs.Prelude.{◌≡◌, ◌↔◌, ◌⊎◌, ◌++◌, ◌∷◌, [], ℕ, List, IfOk, OnOk, IsTrue, map, Contains, length};
+ghost use Rattle.std.specs.Prelude.{◌≡◌, ◌↔◌, ◌++◌, [], ℕ, List, IfOk, IsTrue, map, Contains, length};
 ghost use Rattle.rule_core.specs.Terms.{FactOf};
 ghost use Rattle.rule_core.specs.Match.{image};
 ghost use Rattle.rule_core.specs.Renaming.{HoldTheSame};
@@ -10,36 +10,36 @@ ghost use Rattle.failure_trace.specs.TraceRun.{text_cmp};
 ghost use Rattle.failure_trace.specs.Projected.{pool_text};
 ghost use Rattle.trace_checker.specs.Names.{AreKnown};
 ghost use Rattle.trace_checker.specs.States.{fact_named, replacement, HoldsAlso};
-ghost use Rattle.trace_checker.specs.Listed.{facts_of, AreListed, Moves};
+ghost use Rattle.trace_checker.specs.Numbered.{AreOwn, HaveInner, Replaces};
+ghost use Rattle.trace_checker.specs.declared.name.Name.TheVariants.{Text, Number};
 
-use crate::holders::Holders;
 use crate::name::Name;
-use crate::row::{Row, image_row, replaced_row};
+use crate::numbers::Numbers;
+use crate::row::{Row, image_row};
+use crate::rows::Rows;
 use failure_trace::Bound;
-use indexmap::IndexSet;
 use rule_core::Atom;
 use std::alloc::Global;
 use std::marker::Model;
 use term_core::{Memory, Pool};
 
-/// Facts, each once. Each is listed under its unknowns.
+/// Facts, each once. Their rows have inner numbers for the unknowns of a trace.
 #[derive(Drop)]
 pub struct Facts<'a> {
-    rows: IndexSet<Row<'a>>,
-    holders: Holders<'a>,
+    rows: Rows<'a>,
+    numbers: Numbers,
 }
 
 impl<'a> Model for Facts<'a> {
-    ghost use Rattle.std.specs.Prelude.{[], List, ℕ, map};
+    ghost use Rattle.std.specs.Prelude.{List, ℕ, map};
     ghost use Rattle.rule_core.specs.Terms.{FactOf};
-    ghost use Rattle.trace_checker.specs.States.{fact_named};
-    ghost use Rattle.trace_checker.specs.Listed.{AreListed};
+    ghost use Rattle.trace_checker.specs.Numbered.{outward, renumbered, AreOwn, HaveInner};
 
     ghost Value = { List (FactOf (List ℕ)) };
 
-    ghost view = { λ f. map fact_named f.rows.keys };
+    ghost view = { λ f. map (renumbered (outward f.numbers)) f.rows };
 
-    ghost invariant = { λ f. AreListed (map fact_named f.rows.keys) f.holders [] };
+    ghost invariant = { λ f. AreOwn f.numbers × HaveInner f.numbers f.rows };
 }
 
 impl<'a> Facts<'a> {
@@ -48,88 +48,96 @@ impl<'a> Facts<'a> {
         ensures { result ≡ [] }
     {
         Facts {
-            rows: IndexSet::new(alloc),
-            holders: Holders::new(alloc),
+            rows: Rows::new(alloc),
+            numbers: Numbers::new(alloc),
         }
     }
 
     /// Whether the fact is there.
-    pub fn has(&self, row: &Row<'a>) -> bool
-        ensures { IsTrue result ↔ Contains self.now (fact_named row.now) }
+    pub fn has(&self, alloc: Global, row: &Row<'a>) -> Result<bool, Memory>
+        ensures { IfOk result (λ yes. IsTrue yes ↔ Contains self.now (fact_named row.now)) }
     {
-        self.rows.contains(row)
+        let inner = self.numbers.inner_row(alloc, row)?;
+        Ok(self.rows.has(&inner))
     }
 
     /// The facts and one more, where it is not there yet.
     pub fn with(self, alloc: Global, row: Row<'a>) -> Result<Facts<'a>, Memory>
         ensures { IfOk result (HoldsAlso self.entry (fact_named row.entry)) }
     {
-        let Facts {
-            mut rows,
-            mut holders,
-        } = self;
-        add(alloc, &mut rows, &mut holders, row)?;
-        Ok(Facts { rows, holders })
+        let Facts { rows, mut numbers } = self;
+        numbers.take_in(&row)?;
+        let inner = numbers.inner_row(alloc, &row)?;
+        let rows = rows.with(alloc, inner)?;
+        Ok(Facts { rows, numbers })
     }
 
-    /// The facts with an unknown replaced. It looks at those that are listed under the unknown, and at no other.
+    /// The facts with an unknown replaced. It looks at those that are listed under the unknown, or under the one that
+    /// it becomes, and at no other.
     pub fn replaced(self, alloc: Global, gone: u64, by: Name<'a>) -> Result<Facts<'a>, Memory>
         ensures { IfOk result (λ facts.
             HoldTheSame facts (map (replaced_fact text_cmp (replacement gone by.entry)) self.entry)) }
     {
-        let Facts {
-            mut rows,
-            mut holders,
-        } = self;
-        let listed = holders.take(alloc, gone);
-        let before = listed.as_slice();
-        for row in before {
-            replace(alloc, &mut rows, &mut holders, row, gone, by)?;
-        }
-        Ok(Facts { rows, holders })
+        let Facts { rows, mut numbers } = self;
+        let rows = replace(alloc, rows, &mut numbers, gone, by)?;
+        Ok(Facts { rows, numbers })
     }
 }
 
-// Adds a fact, where it is not there yet, and lists it.
-fn add<'a>(
-    alloc: Global,
-    rows: &mut IndexSet<Row<'a>>,
-    holders: &mut Holders<'a>,
-    row: Row<'a>,
-) -> Result<(), Memory>
-    ensures added { OnOk result
-        (HoldsAlso (facts_of rows.old.keys) (fact_named row.entry) (facts_of rows.new.keys)) }
-    ensures listed { OnOk result ((left : List (FactOf (List ℕ)))
-        → AreListed (facts_of rows.old.keys) holders.old left
-        → AreListed (facts_of rows.new.keys) holders.new left) }
-{
-    if rows.contains(&row) {
-        return Ok(());
-    }
-    holders.list(alloc, &row)?;
-    rows.insert(row)?;
-    Ok(())
-}
-
-// Replaces an unknown in a fact, where the fact is still there.
+// Replaces an unknown.
 fn replace<'a>(
     alloc: Global,
-    rows: &mut IndexSet<Row<'a>>,
-    holders: &mut Holders<'a>,
-    row: &Row<'a>,
+    rows: Rows<'a>,
+    numbers: &mut Numbers,
     gone: u64,
     by: Name<'a>,
-) -> Result<(), Memory>
-    ensures moved { OnOk result (Moves (facts_of rows.old.keys) (fact_named row.now)
-        (replaced_fact text_cmp (replacement gone by.entry) (fact_named row.now)) (facts_of rows.new.keys)) }
-    ensures listed { OnOk result ((left : List (FactOf (List ℕ)))
-        → AreListed (facts_of rows.old.keys) holders.old (fact_named row.now ∷ left)
-        → AreListed (facts_of rows.new.keys) holders.new left) }
+) -> Result<Rows<'a>, Memory>
+    requires own { AreOwn numbers.old }
+    requires inner { HaveInner numbers.old rows }
+    ensures { IfOk result (λ after. Replaces (replacement gone by.entry) numbers.old rows.entry numbers.new after) }
 {
-    if rows.swap_remove(row) {
-        add(alloc, rows, holders, replaced_row(alloc, row, gone, by)?)?;
+    match by {
+        Name::Text(text) => by_text(alloc, rows, numbers, gone, text),
+        Name::Number(kept) => by_number(alloc, rows, numbers, gone, kept),
     }
-    Ok(())
+}
+
+// Replaces an unknown by a constant.
+fn by_text<'a>(
+    alloc: Global,
+    rows: Rows<'a>,
+    numbers: &mut Numbers,
+    gone: u64,
+    text: &'a str,
+) -> Result<Rows<'a>, Memory>
+    requires own { AreOwn numbers.old }
+    requires inner { HaveInner numbers.old rows }
+    ensures { IfOk result (λ after. Replaces (replacement gone (Text text.entry)) numbers.old rows.entry numbers.new after) }
+{
+    let inner = numbers.give(gone)?;
+    rows.replaced(alloc, inner, Name::Text(text))
+}
+
+// Replaces an unknown by another. The inner number under which fewer facts are listed becomes the other.
+fn by_number<'a>(
+    alloc: Global,
+    rows: Rows<'a>,
+    numbers: &mut Numbers,
+    gone: u64,
+    kept: u64,
+) -> Result<Rows<'a>, Memory>
+    requires own { AreOwn numbers.old }
+    requires inner { HaveInner numbers.old rows }
+    ensures { IfOk result (λ after. Replaces (replacement gone (Number kept)) numbers.old rows.entry numbers.new after) }
+{
+    let gone_inner = numbers.give(gone)?;
+    let kept_inner = numbers.give(kept)?;
+    if gone == kept || rows.listed(gone_inner) <= rows.listed(kept_inner) {
+        return rows.replaced(alloc, gone_inner, Name::Number(kept_inner));
+    }
+    let after = rows.replaced(alloc, kept_inner, Name::Number(gone_inner))?;
+    numbers.rename(gone, kept, gone_inner)?;
+    Ok(after)
 }
 
 /// The facts with the images of atoms under a binding.

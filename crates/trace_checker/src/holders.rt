@@ -25,6 +25,14 @@ impl<'a> Holders<'a> {
         }
     }
 
+    /// How many facts are listed under a number. No clause needs to say it.
+    pub fn listed(&self, number: u64) -> usize {
+        match self.lists.get(&number) {
+            Some(list) => list.len(),
+            None => 0,
+        }
+    }
+
     /// Lists a fact under each of its unknowns.
     pub fn list(&mut self, alloc: Global, row: &Row<'a>) -> Result<(), Memory>
         ensures kept { OnOk result (KeepsListed self.old self.new) }

@@ -9,7 +9,9 @@ mod holders;
 pub mod laws;
 mod matching;
 mod name;
+mod numbers;
 mod row;
+mod rows;
 mod state;
 mod verdict;
 

@@ -35,7 +35,8 @@ pub fn matches<'a>(
 {
     for atom in atoms {
         let row = image_row(alloc, pool, binding, atom)?;
-        if !facts.has(&row) {
+        let there = facts.has(alloc, &row)?;
+        if !there {
             return Ok(false);
         }
     }

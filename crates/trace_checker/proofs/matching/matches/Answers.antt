@@ -14,8 +14,8 @@ image_row-requires c =
     subst (IsKnown c.args.pool.now (length c.args.binding.now)) (sym c.atom-item.is)
     (c.requires c.loop-atom.atom-index c.atom-item.result c.loop-atom-test.true)
 
-pub returns-then-not-has : goal.returns-then-not-has
-returns-then-not-has c =
+pub returns-then-not-there : goal.returns-then-not-there
+returns-then-not-there c =
     let name = pool_text c.args.pool.now in
     let binding = bound_to (terms_in c.args.binding.now) in
     let facts = c.args.facts.now in
@@ -23,7 +23,7 @@ returns-then-not-has c =
       λ h. absurd (true≢false (sym h)),
       λ m.
           let there = subst (λ (a : Atom). Contains facts (image name binding a)) (sym c.atom-item.is) (m c.loop-atom.atom-index x c.loop-atom-test.true) in
-          absurd (true≢false (sym (c.has.ensures.1 (subst (Contains facts) (sym c.in_ok-row.ensures) there)) ∙ c.if-not-has.true)),
+          absurd (true≢false (sym (c.in_ok-there.ensures.1 (subst (Contains facts) (sym c.in_ok-row.ensures) there)) ∙ c.if-not-there.true)),
     )
 
 pub loop-atom-preserved : goal.loop-atom-preserved
@@ -34,7 +34,7 @@ loop-atom-preserved c =
     All-more (λ (a : Atom). Contains facts (image name binding a)) c.args.atoms.now c.loop-atom.atom-index c.atom-item.result c.loop-atom-test.true
     c.loop-atom.invariant
     (subst (λ (a : Atom). Contains facts (image name binding a)) c.atom-item.is
-    (subst (Contains facts) c.in_ok-row.ensures (c.has.ensures.0 c.if-not-has.false)))
+    (subst (Contains facts) c.in_ok-row.ensures (c.in_ok-there.ensures.0 c.if-not-there.false)))
 
 pub returns : goal.returns
 returns c = (

@@ -5,7 +5,7 @@ use Rattle.trace_checker.specs.States.{fact_named, replacement, HoldsAlso}
 use Rattle.trace_checker.specs.Listed.{facts_of}
 use Rattle.trace_checker.proofs.ListedLemmas.{listed_without}
 use Rattle.trace_checker.proofs.PartwayLemmas.{left_from, moved, not_moved}
-use Rattle.trace_checker.proofs.facts.replace.Goals as goal
+use Rattle.trace_checker.proofs.rows.replace.Goals as goal
 
 pub returns-in_ok-add-clause-moved : goal.returns-in_ok-add-clause-moved
 returns-in_ok-add-clause-moved c =

@@ -3,7 +3,7 @@ use Rattle.trace_checker.specs.States.{fact_named}
 use Rattle.trace_checker.specs.Listed.{facts_of}
 use Rattle.trace_checker.proofs.FactLemmas.{row_there, row_added}
 use Rattle.trace_checker.proofs.ListedLemmas.{listed_with}
-use Rattle.trace_checker.proofs.facts.add.Goals as goal
+use Rattle.trace_checker.proofs.rows.add.Goals as goal
 
 pub returns-clause-added : goal.returns-clause-added
 returns-clause-added c =

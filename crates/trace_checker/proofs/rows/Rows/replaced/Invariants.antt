@@ -5,7 +5,7 @@ use Rattle.failure_trace.specs.TraceRun.{text_cmp}
 use Rattle.trace_checker.specs.States.{replacement}
 use Rattle.trace_checker.specs.Listed.{facts_of}
 use Rattle.trace_checker.proofs.PartwayLemmas.{IsPartway}
-use Rattle.trace_checker.proofs.facts.Facts.replaced.Given as goal
+use Rattle.trace_checker.proofs.rows.Rows.replaced.Given as goal
 
 abbrev pub invariant-loop-row : goal.invariant-loop-row
 invariant-loop-row l =
