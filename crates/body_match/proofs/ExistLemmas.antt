@@ -21,7 +21,7 @@ use Rattle.body_match.specs.declared.found.Match.{Match}
 use Rattle.body_match.specs.declared.places.Place.{Place}
 use Rattle.body_match.specs.Matches.{seen_value, IsImage, HoldsAt, StandsBefore, IsMatch, AreMatches}
 use Rattle.body_match.specs.Visits.{TakesInTurn}
-use Rattle.body_match.specs.Search.{Task, IsTask, cell_in, placed_value, Agrees, IsPartial, IsListedFrom, Gives}
+use Rattle.body_match.specs.Search.{Task, IsFindable, IsTask, cell_in, placed_value, Agrees, IsPartial, IsListedFrom, Gives}
 use Rattle.body_match.proofs.ListLemmas.{at_within, within_from_at}
 use Rattle.body_match.proofs.SearchLemmas.{some_and, same_some, next_image, next_agrees, next_meets, next_partial}
 use Rattle.body_match.proofs.KeyLemmas.{number_within}
@@ -115,7 +115,7 @@ ordered_from_instant (Some lo) None t f b = tt
 ordered_from_instant (Some lo) (Some hi) t f b = omega (arith, ints)
 
 -- values where there is one at each place
-values_exist : (f : Place → Option Seen) (places : List Place) → All (λ place. IsSome (f place)) places
+pub values_exist : (f : Place → Option Seen) (places : List Place) → All (λ place. IsSome (f place)) places
     → (binding : List Seen) × (map Some binding ≡ map f places)
 values_exist f [] all = ([], refl)
 values_exist f (place ∷ places) all =
@@ -220,19 +220,19 @@ module _ (task : Task) (ok : IsTask task) where
   -- so it is where so many rows are to be chosen yet
   abbrev Exist : ℕ → Type 0
   Exist left = (chosen : List ℕ) (span : Ends) → IsPartial task chosen span → length chosen + left ≡ length task.body
-      → Gives TakesAll (IsListedFrom task chosen) tt tt true
+      → Gives TakesAll (IsListedFrom task chosen) (IsFindable task) tt tt true
 
   -- all matches whose rows begin with these are on a list
   exist_from : (left : ℕ) (chosen : List ℕ) (span : Ends) → IsPartial task chosen span → length chosen + left ≡ length task.body
-      → Gives TakesAll (IsListedFrom task chosen) tt tt true
+      → Gives TakesAll (IsListedFrom task chosen) (IsFindable task) tt tt true
   exist_from zero chosen span partial size =
       let whole : length chosen ≡ length task.body = omega (arith, size) in
       let values = values_exist (cell_in task chosen) task.places (placed_all task ok chosen span partial whole) in
-      gives_one TakesAll (IsListedFrom task chosen) tt tt true (made task ok chosen span partial whole values.0 values.1)
+      gives_one TakesAll (IsFindable task) (IsListedFrom task chosen) tt tt true (made task ok chosen span partial whole values.0 values.1)
       (made_is_listed task ok chosen span partial whole values.0 values.1) (only_made task ok chosen span partial whole values.0 values.1) tt
   exist_from (suc left) chosen span partial size =
-      gives_same TakesAll (IsListedBelow chosen (length task.rows)) (IsListedFrom task chosen) tt tt true
-      (λ m x. shorter task chosen m x.0 x.2) (λ m y. in_rows m (longer task chosen m more y))
+      gives_same TakesAll (IsFindable task) (IsListedBelow chosen (length task.rows)) (IsListedFrom task chosen) tt tt true
+      (λ m x. shorter task chosen m x.0 x.2) (λ m y d. in_rows m (longer task chosen m more y))
       (below (exist_from left) (length task.rows))
     where
       more : length chosen < length task.body
@@ -247,19 +247,19 @@ module _ (task : Task) (ok : IsTask task) where
           (next_image task ok chosen span partial h.0 next.0 next.1 m h.1) in
           (h.0, number_within task.rows h.0 image.0 image.1, h.1)
 
-      one : Exist left → (n : ℕ) → Gives TakesAll (IsListedFrom task (chosen ++ n ∷ [])) tt tt true
+      one : Exist left → (n : ℕ) → Gives TakesAll (IsListedFrom task (chosen ++ n ∷ [])) (IsFindable task) tt tt true
       one smaller n = elim (decide chosen span partial n next.0 next.1) [
         | inl d ↦ smaller (chosen ++ n ∷ []) d.0 d.1 (omega (arith, size, length_push chosen n))
-        | inr none ↦ gives_none TakesAll (IsListedFrom task (chosen ++ n ∷ [])) tt true none
+        | inr none ↦ gives_none TakesAll (IsFindable task) (IsListedFrom task (chosen ++ n ∷ [])) tt true none
       ]
 
-      below : Exist left → (row : ℕ) → Gives TakesAll (IsListedBelow chosen row) tt tt true
-      below smaller zero = gives_none TakesAll (IsListedBelow chosen zero) tt true (λ m h. omega (arith, h.1))
+      below : Exist left → (row : ℕ) → Gives TakesAll (IsListedBelow chosen row) (IsFindable task) tt tt true
+      below smaller zero = gives_none TakesAll (IsFindable task) (IsListedBelow chosen zero) tt true (λ m h. omega (arith, h.1))
       below smaller (suc row) =
-          gives_both TakesAll (IsListedBelow chosen row) (IsListedFrom task (chosen ++ row ∷ [])) (IsListedBelow chosen (suc row)) tt tt tt true
+          gives_both TakesAll (IsFindable task) (IsListedBelow chosen row) (IsListedFrom task (chosen ++ row ∷ [])) (IsListedBelow chosen (suc row)) tt tt tt true
           (below smaller row) (one smaller row) (λ m n x y. next_before task chosen x.0 row m n x.1 x.2 y)
           (λ m x. (x.0, omega (arith, x.1), x.2)) (λ m y. (row, omega arith, y))
-          (λ m r. inl (⊎_elim (λ (b : r.0 < row). inl (r.0, b, r.2)) (λ (g : row ≤ r.0).
+          (λ m r d. inl (⊎_elim (λ (b : r.0 < row). inl (r.0, b, r.2)) (λ (g : row ≤ r.0).
           let same : r.0 ≡ row = omega (arith, g, r.1) in
           inr (subst (λ n. IsListedFrom task (chosen ++ n ∷ []) m) same r.2)) (cases_lt r.0 row)))
 
@@ -272,31 +272,31 @@ module _ (task : Task) (ok : IsTask task) where
     instant = (pos 0, (tt, tt));
   }
 
-  all_exist : Gives TakesAll (IsListedFrom task []) tt tt true
+  all_exist : Gives TakesAll (IsListedFrom task []) (IsFindable task) tt tt true
   all_exist = exist_from (length task.body) [] (record { lo = None; hi = None }) no_rows (omega arith)
 
   -- what a visitor was given is a first part of the list of all matches, and all of it if it wanted more to the end
-  pub given_of_all : {S : Type 0} (takes : S → Match → S → Type 0) (old new : S) (more : Bool)
-      → Gives takes (IsMatch task.body (length task.places) task.rows) old new more
+  pub given_of_all : {S : Type 0} (takes : S → Match → S → Type 0) (old new : S) (more : Bool) → ((m : Match) → IsFindable task m)
+      → Gives takes (IsMatch task.body (length task.places) task.rows) (IsFindable task) old new more
       → (list : List Match) × (rest : List Match) × AreMatches task.body (length task.places) task.rows (list ++ rest)
       × (more ≡ true → rest ≡ []) × TakesInTurn takes old list new
-  given_of_all takes old new true given = (
+  given_of_all takes old new true every given = (
     given.list,
     [],
     subst (AreMatches task.body (length task.places) task.rows) (sym (append-nil given.list))
-        (record { each = λ m. (given.first.each m, given.whole refl m); ordered = given.first.ordered }),
+        (record { each = λ m. (given.first.each m, λ w. given.whole refl m w (every m)); ordered = given.first.ordered }),
     λ e. refl,
     given.taken,
   )
-  given_of_all takes old new false given =
+  given_of_all takes old new false every given =
       let all = all_exist in
       let h = splits given.list all.list given.first.ordered all.first.ordered
-      (λ m c. all.whole refl m (given.first.each m c, (m.rows, refl)))
-      (λ m c. given.first.later m (all.first.each m c).0) in (
+      (λ m c. all.whole refl m (given.first.each m c, (m.rows, refl)) (every m))
+      (λ m c. given.first.later m (all.first.each m c).0 (every m)) in (
         given.list,
         h.0,
         subst (AreMatches task.body (length task.places) task.rows) h.1
-            (record { each = λ m. (λ c. (all.first.each m c).0, λ w. all.whole refl m (w, (m.rows, refl))); ordered = all.first.ordered }),
+            (record { each = λ m. (λ c. (all.first.each m c).0, λ w. all.whole refl m (w, (m.rows, refl)) (every m)); ordered = all.first.ordered }),
         λ e. absurd (false≢true e),
         given.taken,
       )

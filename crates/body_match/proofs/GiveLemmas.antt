@@ -12,7 +12,7 @@ use Rattle.std.proofs.lemmas.List.Elements.{Contains-append_left, Contains-appen
 use Rattle.rule_core.proofs.ListLemmas.{AllPairs-nil, AllPairs-cons, AllPairs-head, AllPairs-tail, Contains-head, Contains-cons, Contains-cons_cases, Contains-nil}
 use Rattle.body_match.specs.declared.found.Match.{Match}
 use Rattle.body_match.specs.Matches.{StandsBefore, IsImageAt, seen_value}
-use Rattle.body_match.specs.Search.{Task, IsListedFrom, AddsNext, Gives}
+use Rattle.body_match.specs.Search.{Task, IsFindable, IsListedFrom, AddsNext, Gives}
 use Rattle.body_match.proofs.ListLemmas.{within_from_at, zip_length}
 use Rattle.body_match.proofs.SearchLemmas.{same_some}
 use Rattle.body_match.proofs.VisitLemmas.{takes_both}
@@ -33,21 +33,21 @@ first_less (x ∷ front) xs ys a b l =
     ap (λ o. ordering_then o (slice_cmp nat_cmp (front ++ a ∷ xs) (front ++ b ∷ ys))) (tied_itself nat_cmp_total x)
     ∙ first_less front xs ys a b l
 
-module _ {S : Type 0} (takes : S → Match → S → Type 0) where
-  pub gives_none : (P : Match → Type 0) (old : S) (more : Bool) → ((m : Match) → P m → ⊥) → Gives takes P old old more
+module _ {S : Type 0} (takes : S → Match → S → Type 0) (CanFind : Match → Type 0) where
+  pub gives_none : (P : Match → Type 0) (old : S) (more : Bool) → ((m : Match) → P m → ⊥) → Gives takes P CanFind old old more
   gives_none P old more none = record {
     list = [];
     first = record {
       each = λ m c. absurd (Contains-nil m c);
       ordered = AllPairs-nil StandsBefore;
-      later = λ m p. absurd (none m p);
+      later = λ m p d. absurd (none m p);
     };
-    whole = λ e m p. absurd (none m p);
+    whole = λ e m p d. absurd (none m p);
     taken = refl;
   }
 
   pub gives_one : (P : Match → Type 0) (old new : S) (more : Bool) (one : Match) → P one → ((m : Match) → P m → one ≡ m)
-      → takes old one new → Gives takes P old new more
+      → takes old one new → Gives takes P CanFind old new more
   gives_one P old new more one p only took =
       let there : (m : Match) → P m → Contains (one ∷ []) m = λ m q. subst (Contains (one ∷ [])) (only m q) (Contains-head one []) in record {
         list = one ∷ [];
@@ -57,30 +57,31 @@ module _ {S : Type 0} (takes : S → Match → S → Type 0) where
             | inr d ↦ absurd (Contains-nil m d)
           ];
           ordered = AllPairs-cons StandsBefore one [] (λ m c. absurd (Contains-nil m c)) (AllPairs-nil StandsBefore);
-          later = λ m q. inl (there m q);
+          later = λ m q d. inl (there m q);
         };
-        whole = λ e m q. there m q;
+        whole = λ e m q d. there m q;
         taken = (new, took, refl);
       }
 
-  pub gives_same : (P Q : Match → Type 0) (old new : S) (more : Bool) → ((m : Match) → P m → Q m) → ((m : Match) → Q m → P m)
-      → Gives takes P old new more → Gives takes Q old new more
+  pub gives_same : (P Q : Match → Type 0) (old new : S) (more : Bool) → ((m : Match) → P m → Q m) → ((m : Match) → Q m → CanFind m → P m)
+      → Gives takes P CanFind old new more → Gives takes Q CanFind old new more
   gives_same P Q old new more f g h = record {
     list = h.list;
     first = record {
       each = λ m c. f m (h.first.each m c);
       ordered = h.first.ordered;
-      later = λ m q. h.first.later m (g m q);
+      later = λ m q d. h.first.later m (g m q d) d;
     };
-    whole = λ e m q. h.whole e m (g m q);
+    whole = λ e m q d. h.whole e m (g m q d) d;
     taken = h.taken;
   }
 
   -- what is given behind all of something; what else there is stands after both, if it is not wanted any more
-  pub gives_both : (P Q R : Match → Type 0) (old between new : S) (more : Bool) → Gives takes P old between true
-      → Gives takes Q between new more → ((m n : Match) → P m → Q n → StandsBefore m n) → ((m : Match) → P m → R m)
+  pub gives_both : (P Q R : Match → Type 0) (old between new : S) (more : Bool) → Gives takes P CanFind old between true
+      → Gives takes Q CanFind between new more → ((m n : Match) → P m → Q n → StandsBefore m n) → ((m : Match) → P m → R m)
       → ((m : Match) → Q m → R m)
-      → ((m : Match) → R m → (P m ⊎ Q m) ⊎ ((more ≡ true → ⊥) × ((n : Match) → P n ⊎ Q n → StandsBefore n m))) → Gives takes R old new more
+      → ((m : Match) → R m → CanFind m → (P m ⊎ Q m) ⊎ ((more ≡ true → ⊥) × ((n : Match) → P n ⊎ Q n → StandsBefore n m)))
+      → Gives takes R CanFind old new more
   gives_both P Q R old between new more p q before f g split = record {
     list = p.list ++ q.list;
     first = record {
@@ -88,9 +89,9 @@ module _ {S : Type 0} (takes : S → Match → S → Type 0) where
           (Contains-append_cases p.list q.list m c);
       ordered = AllPairs-append StandsBefore p.list q.list p.first.ordered q.first.ordered
           (λ m n c d. before m n (p.first.each m c) (q.first.each n d));
-      later = λ m r. by_split m (split m r);
+      later = λ m r d. by_split m d (split m r d);
     };
-    whole = λ e m r. by_whole e m (split m r);
+    whole = λ e m r d. by_whole e m d (split m r d);
     taken = takes_both takes old between new p.list q.list p.taken q.taken;
   }
     where
@@ -104,17 +105,17 @@ module _ {S : Type 0} (takes : S → Match → S → Type 0) where
       by_second m y (inr after) = inr (λ other c. ⊎_elim (λ (d : Contains p.list other). before other m (p.first.each other d) y)
           (λ (d : Contains q.list other). after other d) (Contains-append_cases p.list q.list other c))
 
-      by_split : (m : Match) → (P m ⊎ Q m) ⊎ ((more ≡ true → ⊥) × ((n : Match) → P n ⊎ Q n → StandsBefore n m))
+      by_split : (m : Match) → CanFind m → (P m ⊎ Q m) ⊎ ((more ≡ true → ⊥) × ((n : Match) → P n ⊎ Q n → StandsBefore n m))
           → Contains (p.list ++ q.list) m ⊎ ((other : Match) → Contains (p.list ++ q.list) other → StandsBefore other m)
-      by_split m (inl (inl x)) = inl (Contains-append_left p.list q.list m (p.whole refl m x))
-      by_split m (inl (inr y)) = by_second m y (q.first.later m y)
-      by_split m (inr z) = inr (λ other c. z.1 other (one_of other c))
+      by_split m d (inl (inl x)) = inl (Contains-append_left p.list q.list m (p.whole refl m x d))
+      by_split m d (inl (inr y)) = by_second m y (q.first.later m y d)
+      by_split m d (inr z) = inr (λ other c. z.1 other (one_of other c))
 
-      by_whole : more ≡ true → (m : Match) → (P m ⊎ Q m) ⊎ ((more ≡ true → ⊥) × ((n : Match) → P n ⊎ Q n → StandsBefore n m))
+      by_whole : more ≡ true → (m : Match) → CanFind m → (P m ⊎ Q m) ⊎ ((more ≡ true → ⊥) × ((n : Match) → P n ⊎ Q n → StandsBefore n m))
           → Contains (p.list ++ q.list) m
-      by_whole e m (inl (inl x)) = Contains-append_left p.list q.list m (p.whole refl m x)
-      by_whole e m (inl (inr y)) = Contains-append_right p.list q.list m (q.whole e m y)
-      by_whole e m (inr z) = absurd (z.0 e)
+      by_whole e m d (inl (inl x)) = Contains-append_left p.list q.list m (p.whole refl m x d)
+      by_whole e m d (inl (inr y)) = Contains-append_right p.list q.list m (q.whole e m y d)
+      by_whole e m d (inr z) = absurd (z.0 e)
 
 -- a match whose rows begin with these and go on with one that is listed between two places
 abbrev pub IsListedBetween : Task → List ℕ → List ℕ → ℕ → ℕ → Match → Type 0
@@ -146,34 +147,35 @@ module _ (task : Task) (chosen : List ℕ) where
       (first_less chosen x.1.0 y.1.0 a b l))
 
   module _ {S : Type 0} (takes : S → Match → S → Type 0) (old next : List ℕ) (adds : AddsNext task chosen old next) where
-    pub between_none : (s : S) → Gives takes (IsListedBetween task chosen next (length old) (length old)) s s true
-    between_none s = gives_none takes (IsListedBetween task chosen next (length old) (length old)) s true (λ m h. omega (arith, h.2, h.3))
+    pub between_none : (s : S) → Gives takes (IsListedBetween task chosen next (length old) (length old)) (IsFindable task) s s true
+    between_none s = gives_none takes (IsFindable task) (IsListedBetween task chosen next (length old) (length old)) s true (λ m h. omega (arith, h.2, h.3))
 
     in_order : (at row : ℕ) → slice_get next at ≡ Some row → (m n : Match) → IsListedBetween task chosen next (length old) at m
         → IsListedFrom task (chosen ++ row ∷ []) n → StandsBefore m n
     in_order at row e m n x y = next_before x.1 row m n (adds.ascending x.0 at x.1 row x.2 x.3 x.4 e) x.5 y
 
     pub between_more : (at row : ℕ) (a b c : S) → length old ≤ at → slice_get next at ≡ Some row
-        → Gives takes (IsListedBetween task chosen next (length old) at) a b true
-        → Gives takes (IsListedFrom task (chosen ++ row ∷ [])) b c true
-        → Gives takes (IsListedBetween task chosen next (length old) (at + 1)) a c true
+        → Gives takes (IsListedBetween task chosen next (length old) at) (IsFindable task) a b true
+        → Gives takes (IsListedFrom task (chosen ++ row ∷ [])) (IsFindable task) b c true
+        → Gives takes (IsListedBetween task chosen next (length old) (at + 1)) (IsFindable task) a c true
     between_more at row a b c from e p q =
-        gives_both takes (IsListedBetween task chosen next (length old) at) (IsListedFrom task (chosen ++ row ∷ []))
+        gives_both takes (IsFindable task) (IsListedBetween task chosen next (length old) at) (IsListedFrom task (chosen ++ row ∷ []))
         (IsListedBetween task chosen next (length old) (at + 1)) a b c true p q (in_order at row e)
         (λ m x. (x.0, x.1, x.2, omega (arith, x.3), x.4, x.5)) (λ m y. (at, row, from, omega arith, e, y))
-        (λ m r. inl (⊎_elim (λ (before : r.0 < at). inl (r.0, r.1, r.2, before, r.4, r.5)) (λ (last : at ≤ r.0).
+        (λ m r d. inl (⊎_elim (λ (before : r.0 < at). inl (r.0, r.1, r.2, before, r.4, r.5)) (λ (last : at ≤ r.0).
         let same : r.0 ≡ at = omega (arith, last, r.3) in
         let this : r.1 ≡ row = same_some (slice_get next r.0) r.1 row r.4 (ap (slice_get next) same ∙ e) in
         inr (subst (λ n. IsListedFrom task (chosen ++ n ∷ []) m) this r.5)) (cases_lt r.0 at)))
 
     -- where no more is wanted, all others stand after what was given
     pub between_stop : (at row : ℕ) (a b c : S) → length chosen < length task.body → length old ≤ at → slice_get next at ≡ Some row
-        → Gives takes (IsListedBetween task chosen next (length old) at) a b true
-        → Gives takes (IsListedFrom task (chosen ++ row ∷ [])) b c false → Gives takes (IsListedFrom task chosen) a c false
+        → Gives takes (IsListedBetween task chosen next (length old) at) (IsFindable task) a b true
+        → Gives takes (IsListedFrom task (chosen ++ row ∷ [])) (IsFindable task) b c false
+        → Gives takes (IsListedFrom task chosen) (IsFindable task) a c false
     between_stop at row a b c more from e p q =
-        gives_both takes (IsListedBetween task chosen next (length old) at) (IsListedFrom task (chosen ++ row ∷ []))
+        gives_both takes (IsFindable task) (IsListedBetween task chosen next (length old) at) (IsListedFrom task (chosen ++ row ∷ []))
         (IsListedFrom task chosen) a b c false p q (in_order at row e) (λ m x. shorter m x.1 x.5) (λ m y. shorter m row y)
-        (λ m r. let n = longer m more r in let k = adds.all m n.0 n.1 in by_place m n.0 n.1 k.0 k.1 k.2 (cases_lt k.0 at))
+        (λ m r d. let n = longer m more r in let k = adds.all m n.0 n.1 d in by_place m n.0 n.1 k.0 k.1 k.2 (cases_lt k.0 at))
       where
         by_place : (m : Match) (n : ℕ) → IsListedFrom task (chosen ++ n ∷ []) m → (k : ℕ) → length old ≤ k → slice_get next k ≡ Some n
             → (k < at) ⊎ (at ≤ k)
@@ -193,9 +195,10 @@ module _ (task : Task) (chosen : List ℕ) where
             inl (inr (subst (λ x. IsListedFrom task (chosen ++ x ∷ []) m) this h))) (cases_lt at k)
 
     pub between_all : (at : ℕ) (a b : S) → length chosen < length task.body → length next ≤ at
-        → Gives takes (IsListedBetween task chosen next (length old) at) a b true → Gives takes (IsListedFrom task chosen) a b true
+        → Gives takes (IsListedBetween task chosen next (length old) at) (IsFindable task) a b true
+        → Gives takes (IsListedFrom task chosen) (IsFindable task) a b true
     between_all at a b more past p =
-        gives_same takes (IsListedBetween task chosen next (length old) at) (IsListedFrom task chosen) a b true
+        gives_same takes (IsFindable task) (IsListedBetween task chosen next (length old) at) (IsListedFrom task chosen) a b true
         (λ m x. shorter m x.1 x.5)
-        (λ m r. let n = longer m more r in let k = adds.all m n.0 n.1 in
+        (λ m r d. let n = longer m more r in let k = adds.all m n.0 n.1 d in
         (k.0, n.0, k.1, (let l = within_from_at next k.0 n.0 k.2 in omega (arith, l, past)), k.2, n.1)) p

@@ -16,7 +16,8 @@ use Rattle.body_match.specs.declared.places.Place.{Place}
 use Rattle.body_match.specs.declared.plan.Plan.{Plan}
 use Rattle.body_match.specs.Keys.{AreBound, AreLevels, IsEntryOf, IsLevel, IsListedUnder, ListsOne}
 use Rattle.body_match.specs.Places.{AreFirstPlaces}
-use Rattle.body_match.specs.Plans.{IsOrder, IsOrdered, IsPlan, AreSameLevels, AreSamePlans, CanList, CanSearch, ArePlans, IsIndex, IsListedFor, IsSamePlan, KeepsListed, KeepListed}
+use Rattle.body_match.specs.Plans.{IsOrder, IsOrdered, IsPlan, AreSameLevels, AreSamePlans, CanList, CanSearch, ArePlans, IsIndex, IsListedFor, IsSamePlan, KeepsListed, KeepListed, task_in}
+use Rattle.body_match.specs.Search.{ListsAll}
 use Rattle.body_match.specs.Index.{Index, Grows, Lists, ListsRow}
 use Rattle.body_match.proofs.ListLemmas.{at_within, within_from_at, contains_from_at, at_set_here, at_set_other, at_push, size_set}
 use Rattle.body_match.proofs.PlaceLemmas.{atom_from_occurs, occurs_from_atom}
@@ -220,8 +221,8 @@ module _ (body : List Atom) (vars first : ℕ) (plan : Plan) (ok : IsPlan body v
   }
 
   pub can_search : (rows : List (Option SeenRow)) → 1 ≤ length body → ((v : ℕ) → Contains (occurrences body) v ↔ (v < vars))
-      → ((number : ℕ) → IsListedUnder plan.body plan.levels.items rows number) → CanSearch plan rows
-  can_search rows some occurring listed =
+      → CanSearch plan rows
+  can_search rows some occurring =
       let order = plan.order.items in
       record {
         some = subst (λ n. 1 ≤ n) (sym plan_size) some;
@@ -232,15 +233,7 @@ module _ (body : List Atom) (vars first : ℕ) (plan : Plan) (ok : IsPlan body v
           vars = λ v c. subst (λ n. v < n) (sym ok.places.size)
               ((occurring v).0 (occurs_in_body body order ok.order.moved plan.body ok.atoms v c));
           size = ok.size;
-          levels = λ before atom first less e.
-              let level = at_within plan.levels.items (before - 1) (omega (arith, first, less, ok.size)) in (
-                level.0,
-                level.1,
-                record {
-                  bound = ok.told before atom level.0 first e level.1;
-                  listed = λ number below row form. listed number before atom level.0 first e level.1 row form;
-                },
-              );
+          told = ok.told;
         };
       }
 
@@ -335,10 +328,14 @@ pub lists_row : (body : List Atom) (vars : ℕ) (rows : List (Option SeenRow)) (
     → IsListedFor plans rows row (length plans) → ListsRow (record { body = body; vars = vars; plans = plans }) rows row
 lists_row body vars rows row plans listed k d l = listed k (get_or plans k d) l (slice_get-get_or plans k d l)
 
-pub can_search_each : (index : Index) → IsIndex index → (rows : List (Option SeenRow)) → Lists index rows → (k : ℕ) (plan : Plan)
+pub can_search_each : (index : Index) → IsIndex index → (rows : List (Option SeenRow)) (k : ℕ) (plan : Plan)
     → slice_get index.plans k ≡ Some plan → CanSearch plan rows
-can_search_each index ok rows lists k plan e =
+can_search_each index ok rows k plan e =
     can_search index.body index.vars k plan (ok.each k plan e) rows
     (let l = within_from_at index.plans k plan e in omega (arith, l, ok.size)) ok.vars
-    (λ number. All-contains (λ (p : Plan). IsListedUnder p.body p.levels.items rows number) index.plans plan (lists number)
-    (contains_from_at index.plans k plan e))
+
+pub lists_each : (index : Index) (rows : List (Option SeenRow)) → Lists index rows → (k : ℕ) (plan : Plan)
+    → slice_get index.plans k ≡ Some plan → ListsAll (task_in plan rows)
+lists_each index rows lists k plan e number =
+    All-contains (λ (p : Plan). IsListedUnder p.body p.levels.items rows number) index.plans plan (lists number)
+    (contains_from_at index.plans k plan e)

@@ -1,5 +1,5 @@
 -- Keys, and that a row which may be chosen next is found under its key.
-use Rattle.std.proofs.Common.{◌≡◌, ℕ, ℤ, ◌<◌, ◌<ℤ◌, ◌≤ℤ◌, arith, Option, Some, None, List, [], ◌∷◌, ◌++◌, length, fold, refl, sym, ap, ◌∙◌, subst, All, Contains, get_or}
+use Rattle.std.proofs.Common.{◌≡◌, ℕ, ℤ, ◌-◌, ◌<◌, ◌≤◌, ◌<ℤ◌, ◌≤ℤ◌, arith, Option, Some, None, List, [], ◌∷◌, ◌++◌, length, fold, refl, sym, ap, ◌∙◌, subst, All, Contains, get_or}
 use Rattle.std.specs.Prelude.{slice_get, IsSome}
 use Rattle.std.specs.Option.{option_and_then}
 use Rattle.std.proofs.lemmas.Option.{get_or_from_slice_get}
@@ -19,9 +19,9 @@ use Rattle.body_match.specs.declared.levels.Level.{Level}
 use Rattle.body_match.specs.declared.lookup.Probe.{Probe}
 use Rattle.body_match.specs.Matches.{seen_value, IsImage}
 use Rattle.body_match.specs.Lookup.{HasSought}
-use Rattle.body_match.specs.Keys.{mixed_some, key_of, IsBound, AreBound, start_number, stop_number, IsLevel}
-use Rattle.body_match.specs.Search.{Task, IsTask, placed_value, value_in, IsPartial, IsListedFrom, HasNext}
-use Rattle.body_match.proofs.ListLemmas.{at_within, within_from_at, at_front}
+use Rattle.body_match.specs.Keys.{mixed_some, key_of, IsBound, AreBound, start_number, stop_number}
+use Rattle.body_match.specs.Search.{Task, IsFindable, IsTask, ListsAll, placed_value, value_in, IsPartial, IsListedFrom, HasNext}
+use Rattle.body_match.proofs.ListLemmas.{at_within, within_from_at, at_front, at_seam}
 use Rattle.body_match.proofs.EndsLemmas.{meeting_ends}
 use Rattle.body_match.proofs.SearchLemmas.{some_and, same_some, image_cell, placed_var, next_image, next_agrees, next_meets}
 
@@ -43,6 +43,10 @@ keys_same f g (column ∷ columns) key same =
 pub key_same : (f g : ℕ → Option Seen) (columns : List ℕ) → ((column : ℕ) → Contains columns column → f column ≡ g column)
     → key_of f columns ≡ key_of g columns
 key_same f g columns same = keys_same f g columns 0 same
+
+-- where each row is listed, each match can be found
+pub all_findable : (task : Task) → ListsAll task → (found : Match) → IsFindable task found
+all_findable task lists found before number some e = lists number
 
 -- a row that has a number is one of the rows
 pub number_within : (rows : List (Option SeenRow)) (number : ℕ) (row : SeenRow) → row_at rows number ≡ Some row → number < length rows
@@ -87,16 +91,18 @@ module _ (task : Task) (ok : IsTask task) (chosen : List ℕ) (span : Ends) (par
         next_agrees task ok chosen span partial number atom next found h column b.0 b.1 ∙ bound_stays number b.0 b.2
         ∙ sym (ap (option_and_then (placed_value task chosen)) b.1)
 
-    -- so a look-up finds all rows that may be chosen next
-    pub finds_next : (level : Level) (probe : Probe) (rows : List ℕ) → level.columns.items ≡ columns
-        → IsLevel task.places task.rows (length chosen) atom level → probe.key ≡ key_of (value_in task chosen atom) columns
+    -- so a look-up finds all rows that are listed and may be chosen next
+    pub finds_next : (level : Level) (probe : Probe) (rows : List ℕ) → level.columns.items ≡ columns → 1 ≤ length chosen
+        → slice_get task.levels (length chosen - 1) ≡ Some level → probe.key ≡ key_of (value_in task chosen atom) columns
         → probe.from ≡ start_number span.lo → probe.to ≡ stop_number span.hi → IsSpan span
         → HasSought level.listed probe rows → HasNext task chosen rows
-    finds_next level probe rows read ok_level key from to is_span sought found number h =
+    finds_next level probe rows read some here key from to is_span sought found number h can_find =
         let image = some_and (IsImage (seen_value found.binding) atom) (row_at task.rows number)
         (next_image task ok chosen span partial number atom next found h) in
         let arity = sym (length-map image.0.cells Some) ∙ ap length image.2.cells ∙ length-map atom.args (seen_value found.binding) in
-        let listed = ok_level.listed number (number_within task.rows number image.0 image.1) image.0
+        let at : slice_get found.rows (length chosen) ≡ Some number = ap (λ l. slice_get l (length chosen)) h.1.1
+        ∙ at_front (chosen ++ number ∷ []) h.1.0 (length chosen) number (at_seam chosen number []) in
+        let listed = can_find (length chosen) number some at (length chosen) atom level some next here image.0
         (record { there = image.1; relation = image.2.relation; arity = arity }) in
         let entry = listed.2 in
         let meets = next_meets task ok chosen span partial number atom next found h in

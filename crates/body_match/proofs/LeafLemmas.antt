@@ -10,13 +10,21 @@ use Rattle.term_core.specs.declared.term.Seen.{Seen}
 use Rattle.rule_core.specs.declared.rules.Arg.{Arg}
 use Rattle.rule_core.specs.declared.rules.Arg.TheVariants.{Var, Const}
 use Rattle.rule_core.specs.declared.rules.Atom.{Atom}
-use Rattle.fact_table.specs.Rows.{cell_at}
+use Rattle.fact_table.specs.Rows.{SeenRow, cell_at}
 use Rattle.body_match.specs.declared.found.Match.{Match}
 use Rattle.body_match.specs.Matches.{seen_value, IsImageAt, HoldsAt, IsMatch}
 use Rattle.body_match.specs.Search.{Task, IsTask, cell_in, placed_value, IsPartial, BeginsWith, IsListedFrom}
 use Rattle.body_match.proofs.ListLemmas.{at_within, within_from_at, at_map, at_from_map, same_at_each, zip_from_each, zip_length}
 use Rattle.body_match.proofs.EndsLemmas.{same_ends}
 use Rattle.body_match.proofs.SearchLemmas.{same_some, image_cell, placed_in_match}
+
+-- a match has no more rows than the body has atoms
+pub whole_rows : (body : List Atom) (vars : ℕ) (rows : List (Option SeenRow)) (chosen : List ℕ) (m : Match) → IsMatch body vars rows m
+    → BeginsWith chosen m.rows → length chosen ≡ length body → chosen ≡ m.rows
+whole_rows body vars rows chosen m whole begins size =
+    let long = zip_length (IsImageAt rows (seen_value m.binding)) body m.rows whole.images in
+    let none : length begins.0 ≡ 0 = omega (arith, long, size, ap length begins.1, length-append chosen begins.0) in
+    sym (begins.1 ∙ ap (λ l. chosen ++ l) (nil_from_length begins.0 none) ∙ append-nil chosen)
 
 module _ (task : Task) (ok : IsTask task) (chosen : List ℕ) (span : Ends) (partial : IsPartial task chosen span)
     (whole : length chosen ≡ length task.body) where
@@ -35,17 +43,14 @@ module _ (task : Task) (ok : IsTask task) (chosen : List ℕ) (span : Ends) (par
 
   -- a match is another one's only if its rows begin so
   pub same_rows : (m : Match) → IsMatch task.body (length task.places) task.rows m → BeginsWith chosen m.rows → chosen ≡ m.rows
-  same_rows m h begins =
-      let long = zip_length (IsImageAt task.rows (seen_value m.binding)) task.body m.rows h.images in
-      let size : length begins.0 ≡ 0 = omega (arith, long, whole, ap length begins.1, length-append chosen begins.0) in
-      sym (begins.1 ∙ ap (λ l. chosen ++ l) (nil_from_length begins.0 size) ∙ append-nil chosen)
+  same_rows m h begins = whole_rows task.body (length task.places) task.rows chosen m h begins whole
 
   module _ (binding : List Seen) (values : map Some binding ≡ map (cell_in task chosen) task.places) where
     size : length binding ≡ length task.places
     size = sym (length-map binding Some) ∙ ap length values ∙ length-map task.places (cell_in task chosen)
 
     -- arguments stand for the same by the places and by the values
-    seen_placed : (arg : Arg) → placed_value task chosen arg ≡ seen_value binding arg
+    pub seen_placed : (arg : Arg) → placed_value task chosen arg ≡ seen_value binding arg
     seen_placed (Const c) = refl
     seen_placed (Var v) = ⊎_elim
         (λ (l : v < length task.places).

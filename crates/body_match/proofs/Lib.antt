@@ -2,6 +2,7 @@ pub mod ListLemmas
 pub mod PlaceLemmas
 pub mod TreeLemmas
 pub mod SearchLemmas
+pub mod DirectoryLemmas
 pub mod EndsLemmas
 pub mod KeyLemmas
 pub mod LeafLemmas
@@ -16,4 +17,8 @@ pub mod RegisterLemmas
 pub mod IndexLemmas
 pub mod UnequalLemmas
 pub mod UsingLemmas
+pub mod ShownLemmas
+pub mod ExactLemmas
 pub mod OrderLemmas
+pub mod RenewalLemmas
+pub mod ChoiceLemmas

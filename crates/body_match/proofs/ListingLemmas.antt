@@ -31,11 +31,11 @@ lists_all old new body vars rows true stops empty h =
     subst (AreMatches body vars rows) (sym (from_empty old new h.0 empty h.4 ∙ sym (append-nil h.0) ∙ ap (λ l. h.0 ++ l) (sym (h.3 refl)))) h.2
 
 -- so it is with what a search gives
-pub lists_given : (old new : Listing) (IsSo : Match → Type 0) (whole : Bool) → (whole ≡ false → ⊥) → old.list.items ≡ []
-    → Gives Adds IsSo old new whole → (m : Match) → Contains new.list.items m ↔ IsSo m
-lists_given old new IsSo false stops empty given m = absurd (stops refl)
-lists_given old new IsSo true stops empty given m =
+pub lists_given : (old new : Listing) (IsSo CanFind : Match → Type 0) → ((m : Match) → CanFind m) → (whole : Bool) → (whole ≡ false → ⊥) → old.list.items ≡ []
+    → Gives Adds IsSo CanFind old new whole → (m : Match) → Contains new.list.items m ↔ IsSo m
+lists_given old new IsSo CanFind every false stops empty given m = absurd (stops refl)
+lists_given old new IsSo CanFind every true stops empty given m =
     let is = from_empty old new given.list empty given.taken in (
       λ c. given.first.each m (subst (λ l. Contains l m) is c),
-      λ h. subst (λ l. Contains l m) (sym is) (given.whole refl m h),
+      λ h. subst (λ l. Contains l m) (sym is) (given.whole refl m h (every m)),
     )

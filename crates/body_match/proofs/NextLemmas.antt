@@ -36,8 +36,8 @@ adds_next task chosen old new found sorted distinct has moved order same pushed 
           let h = pairs (j - length old) (k - length old) 0 (omega (arith, from, l)) within in
           subst (λ x. x < b) (get_or_from_slice_get distinct (j - length old) a 0 at_j)
           (subst (λ x. get_or distinct (j - length old) 0 < x) (get_or_from_slice_get distinct (k - length old) b 0 at_k) h);
-      all = λ m n h.
-          let c = subst (λ xs. Contains xs n) (sym same) (Contains-dedup_nat sorted n (Contains-permutation found sorted n moved (has m n h))) in
+      all = λ m n h d.
+          let c = subst (λ xs. Contains xs n) (sym same) (Contains-dedup_nat sorted n (Contains-permutation found sorted n moved (has m n h d))) in
           let at = at_from_contains distinct n c in (
             at.0 + length old,
             omega arith,

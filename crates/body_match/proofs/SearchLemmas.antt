@@ -82,7 +82,7 @@ image_cell rows value atom n j arg image e =
 
 module _ (task : Task) (ok : IsTask task) where
   -- the place of a variable that is an argument of an atom is in this atom or before it
-  located : (k j v : ℕ) (atom : Atom) → slice_get task.body k ≡ Some atom → slice_get atom.args j ≡ Some (Var v)
+  pub located : (k j v : ℕ) (atom : Atom) → slice_get task.body k ≡ Some atom → slice_get atom.args j ≡ Some (Var v)
       → (place : Place) × (slice_get task.places v ≡ Some place) × IsFirstPlace task.body v place × (place.atom ≤ k)
   located k j v atom e a =
       let arg = contains_from_at atom.args j (Var v) a in

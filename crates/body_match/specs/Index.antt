@@ -39,3 +39,9 @@ pub record IsUnequal (index : Index) (rows : List (Option SeenRow)) (row left ri
   pub match : IsMatch index.body index.vars rows found
   pub uses : Contains found.rows row
   pub unequal : slice_get found.binding left ≢ slice_get found.binding right
+
+-- a match that has these rows and gives the two variables different values
+pub record IsUnequalWith (index : Index) (rows : List (Option SeenRow)) (left right : ℕ) (numbers : List ℕ) (found : Match) : Type 0 where
+  pub match : IsMatch index.body index.vars rows found
+  pub uses : found.rows ≡ numbers
+  pub unequal : slice_get found.binding left ≢ slice_get found.binding right

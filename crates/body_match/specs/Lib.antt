@@ -2,11 +2,15 @@ pub mod Matches
 pub mod Snapshots
 pub mod Visits
 pub mod Keys
+pub mod Directory
 pub mod Lookup
 pub mod Places
 pub mod Search
 pub mod Listings
 pub mod Index
+pub mod Equality
+pub mod Choice
+pub mod Renewals
 pub mod Plans
 pub mod Unequal
 pub mod Using

@@ -3,6 +3,8 @@ use Rattle.std.specs.Prelude.{◌≡◌, ◌⊎◌, ℕ, ◌+◌, ◌*◌, ◌/�
 use Rattle.body_match.specs.declared.lookup.Entry.{Entry}
 use Rattle.body_match.specs.declared.lookup.Probe.{Probe}
 use Rattle.body_match.specs.declared.lookup.Reach.{Reach}
+use Rattle.body_match.specs.declared.directory.Stretch.{Stretch}
+use Rattle.body_match.specs.Directory.{AreDirected, IsWithin}
 
 -- the entry is under the key, and may have an instant between those of the probe
 pub record IsSought (probe : Probe) (entry : Entry) : Type 0 where
@@ -21,15 +23,16 @@ pub record Encloses (reach : Reach) (entry : Entry) : Type 0 where
 abbrev pub Includes : Reach → Reach → Type 0
 Includes reach other = (entry : Entry) → Encloses other entry → Encloses reach entry
 
--- entries, and the reaches of the nodes of a tree, whose leaves begin at a place
+-- entries, the reaches of the nodes of a tree, whose leaves begin at a place, and stretches of the entries
 pub record Tree : Type 0 where
   pub entries : List Entry
   pub reaches : List Reach
   pub leaves : ℕ
+  pub stretches : List Stretch
 
 -- a tree from its parts
-abbrev pub tree_of : List Entry → List Reach → ℕ → Tree
-tree_of entries reaches leaves = record { entries = entries; reaches = reaches; leaves = leaves }
+abbrev pub tree_of : List Entry → List Reach → ℕ → List Stretch → Tree
+tree_of entries reaches leaves stretches = record { entries = entries; reaches = reaches; leaves = leaves; stretches = stretches }
 
 -- the first entries lie within the reaches of their leaves, eight to a leaf
 abbrev pub AreInLeaves : List Entry → List Reach → ℕ → ℕ → Type 0
@@ -41,13 +44,14 @@ abbrev pub AreJoined : List Reach → ℕ → Type 0
 AreJoined reaches first = (node : ℕ) (reach other : Reach) (below : ℕ) → first ≤ node → slice_get reaches node ≡ Some reach
     → (below ≡ 2 * node) ⊎ (below ≡ 2 * node + 1) → slice_get reaches below ≡ Some other → Includes reach other
 
--- each reach includes the entries below
+-- each reach includes the entries below, and each entry stands within the stretch of its key
 pub record IsTree (tree : Tree) : Type 0 where
   pub some : 1 ≤ tree.leaves
   pub fits : 16 * tree.leaves < 2 ^ 64
   pub size : length tree.reaches ≡ 2 * tree.leaves
   pub leaf : AreInLeaves tree.entries tree.reaches tree.leaves (length tree.entries)
   pub joined : AreJoined tree.reaches 1
+  pub directed : AreDirected tree.entries tree.stretches (length tree.entries)
 
 -- the second node is so many steps below the first
 abbrev pub StepsBelow : ℕ → ℕ → ℕ → Type 0
@@ -72,6 +76,11 @@ Keeps old new = (row : ℕ) → Contains old row → Contains new row
 pub record AddsBelow (tree : Tree) (node : ℕ) (probe : Probe) (old new : List ℕ) : Type 0 where
   pub kept : Keeps old new
   pub sought : (at : ℕ) (entry : Entry) → IsSoughtBelow tree node probe at entry → Contains new entry.row
+
+-- all rows are kept, and the rows that are sought within a stretch are there
+pub record AddsWithin (entries : List Entry) (stretch : Stretch) (probe : Probe) (old new : List ℕ) : Type 0 where
+  pub kept : Keeps old new
+  pub sought : (at : ℕ) (entry : Entry) → IsWithin stretch at → slice_get entries at ≡ Some entry → IsSought probe entry → Contains new entry.row
 
 -- all rows that are sought are there
 abbrev pub HasSought : List Entry → Probe → List ℕ → Type 0

@@ -6,12 +6,13 @@ use Rattle.rule_core.specs.Validity.{occurrences}
 use Rattle.body_match.specs.declared.levels.Level.{Level}
 use Rattle.body_match.specs.declared.lookup.Entry.{Entry}
 use Rattle.body_match.specs.declared.plan.Plan.{Plan}
-use Rattle.body_match.specs.Keys.{AreBound, IsListedUnder}
+use Rattle.body_match.specs.Keys.{IsListedUnder}
 use Rattle.body_match.specs.Places.{AreFirstPlaces}
 use Rattle.fact_table.specs.Rows.{SeenRow}
 use Rattle.body_match.specs.declared.found.Match.{Match}
 use Rattle.body_match.specs.Index.{Index}
-use Rattle.body_match.specs.Search.{Task, IsTask, task_of, IsListedFrom}
+use Rattle.body_match.specs.Matches.{IsMatch}
+use Rattle.body_match.specs.Search.{Task, AreTold, IsFindable, IsTask, task_of, IsListedFrom}
 use Rattle.body_match.specs.Unequal.{Differ}
 
 -- all places below the size, each once, and this one first
@@ -23,18 +24,13 @@ pub record IsOrder (size start : ℕ) (order : List ℕ) : Type 0 where
 abbrev pub IsOrdered : {X : Type 0} → List X → List ℕ → List X → Type 0
 IsOrdered {X} xs order ys = map (λ y. Some y) ys ≡ map (λ place. slice_get xs place) order
 
--- the columns of each level are told by earlier atoms
-abbrev pub AreToldBefore : Plan → Type 0
-AreToldBefore plan = (before : ℕ) (atom : Atom) (level : Level) → 1 ≤ before → slice_get plan.body before ≡ Some atom
-    → slice_get plan.levels.items (before - 1) ≡ Some level → AreBound plan.places.items before atom level.columns.items
-
 -- the plan takes the atoms of the body in an order that begins with this one
 pub record IsPlan (body : List Atom) (vars first : ℕ) (plan : Plan) : Type 0 where
   pub order : IsOrder (length body) first plan.order.items
   pub atoms : IsOrdered body plan.order.items plan.body
   pub places : AreFirstPlaces plan.body vars plan.places.items
   pub size : length plan.body ≤ length plan.levels.items + 1
-  pub told : AreToldBefore plan
+  pub told : AreTold plan.body plan.places.items plan.levels.items
 
 -- there is a plan for each atom
 pub record IsIndex (index : Index) : Type 0 where
@@ -60,6 +56,18 @@ pub record IsPutBack (plan : Plan) (source : List (Option SeenRow)) (row left ri
   pub back : IsBack plan.order.items ordered found
   pub differ : Differ left right ordered
 
+-- the match is one of the plan that has these rows, which are in the order of the body
+pub record HasRows (plan : Plan) (source : List (Option SeenRow)) (numbers : List ℕ) (found : Match) : Type 0 where
+  pub match : IsMatch plan.body (length plan.places.items) source found
+  pub rows : IsOrdered numbers plan.order.items found.rows
+
+-- the match is such a one with different values, its rows put back into the order of the body
+pub record IsUnequalIn (plan : Plan) (source : List (Option SeenRow)) (numbers : List ℕ) (left right : ℕ) (found : Match) : Type 0 where
+  pub ordered : Match
+  pub has : HasRows plan source numbers ordered
+  pub back : IsBack plan.order.items ordered found
+  pub differ : Differ left right ordered
+
 -- the plan can be searched in
 pub record CanSearch (plan : Plan) (rows : List (Option SeenRow)) : Type 0 where
   pub some : 1 ≤ length plan.body
@@ -67,9 +75,10 @@ pub record CanSearch (plan : Plan) (rows : List (Option SeenRow)) : Type 0 where
   pub order : IsPermutation (range_with_len 0 (length plan.order.items)) plan.order.items
   pub task : IsTask (task_in plan rows)
 
--- no match of the plan with the row at its first atom has different values
+-- no match of the plan with the row at its first atom that can be found has different values
 abbrev pub HasNone : Plan → List (Option SeenRow) → ℕ → ℕ → ℕ → Type 0
-HasNone plan rows row left right = (m : Match) → IsListedFrom (task_in plan rows) (row ∷ []) m → ¬ (Differ left right m)
+HasNone plan rows row left right =
+    (m : Match) → IsListedFrom (task_in plan rows) (row ∷ []) m → IsFindable (task_in plan rows) m → ¬ (Differ left right m)
 
 -- so it is for the first plans
 abbrev pub HaveNone : List Plan → List (Option SeenRow) → ℕ → ℕ → ℕ → ℕ → Type 0

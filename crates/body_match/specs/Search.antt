@@ -1,5 +1,5 @@
 -- What is searched for, what a search has chosen, and what it adds. No public clause cites this module.
-use Rattle.std.specs.Prelude.{◌≡◌, ◌↔◌, ℕ, ℤ, ◌≤◌, ◌<◌, ◌+◌, ◌⊎◌, List, [], ◌∷◌, ◌++◌, Option, Some, Bool, true, All, AllPairs, Contains, length, take, slice_get}
+use Rattle.std.specs.Prelude.{◌≡◌, ◌↔◌, ℕ, ℤ, ◌≤◌, ◌<◌, ◌+◌, ◌-◌, ◌⊎◌, List, [], ◌∷◌, ◌++◌, Option, Some, Bool, true, All, AllPairs, Contains, length, take, slice_get}
 use Rattle.std.specs.Option.{option_and_then}
 use Rattle.time_line.specs.Span.{Ends, Has, HasInstant}
 use Rattle.term_core.specs.declared.term.Seen.{Seen}
@@ -13,7 +13,7 @@ use Rattle.body_match.specs.declared.places.Place.{Place}
 use Rattle.body_match.specs.Matches.{IsMatch, IsImageAt, HoldsAt, StandsBefore}
 use Rattle.body_match.specs.declared.levels.Level.{Level}
 use Rattle.body_match.specs.Places.{AreFirstPlaces, OccurBelow}
-use Rattle.body_match.specs.Keys.{AreLevels}
+use Rattle.body_match.specs.Keys.{AreBound, IsListedUnder}
 use Rattle.body_match.specs.Visits.{TakesInTurn}
 
 -- a body, a place for each of its variables, the rows of a store, and a level for each atom but the first
@@ -27,12 +27,26 @@ pub record Task : Type 0 where
 abbrev pub task_of : List Atom → List Place → List (Option SeenRow) → List Level → Task
 task_of body places rows levels = record { body = body; places = places; rows = rows; levels = levels }
 
--- the places are those of exactly the variables that occur, and the levels list the rows
+-- the columns of each level are told by earlier atoms
+abbrev pub AreTold : List Atom → List Place → List Level → Type 0
+AreTold body places levels = (before : ℕ) (atom : Atom) (level : Level) → 1 ≤ before → slice_get body before ≡ Some atom
+    → slice_get levels (before - 1) ≡ Some level → AreBound places before atom level.columns.items
+
+-- the places are those of exactly the variables that occur, and each level looks up by what is told
 pub record IsTask (task : Task) : Type 0 where
   pub places : AreFirstPlaces task.body (length task.places) task.places
   pub vars : OccurBelow (length task.places) task.body
   pub size : length task.body ≤ length task.levels + 1
-  pub levels : AreLevels task.body task.places task.rows (length task.body) task.levels
+  pub told : AreTold task.body task.places task.levels
+
+-- each row is listed
+abbrev pub ListsAll : Task → Type 0
+ListsAll task = (number : ℕ) → IsListedUnder task.body task.levels task.rows number
+
+-- each row of the match behind the first is listed, so that a search finds it
+abbrev pub IsFindable : Task → Match → Type 0
+IsFindable task found = (before number : ℕ) → 1 ≤ before → slice_get found.rows before ≡ Some number
+    → IsListedUnder task.body task.levels task.rows number
 
 -- the cell at a place, where rows are chosen for the first atoms
 abbrev pub cell_in : Task → List ℕ → Place → Option Seen
@@ -71,25 +85,28 @@ value_in task chosen atom column = option_and_then (placed_value task chosen) (s
 
 -- all rows that may be chosen next are there
 abbrev pub HasNext : Task → List ℕ → List ℕ → Type 0
-HasNext task chosen rows = (found : Match) (number : ℕ) → IsListedFrom task (chosen ++ number ∷ []) found → Contains rows number
+HasNext task chosen rows = (found : Match) (number : ℕ) → IsListedFrom task (chosen ++ number ∷ []) found → IsFindable task found
+    → Contains rows number
 
 -- behind the list stand all rows that may be chosen next, in order, each once
 pub record AddsNext (task : Task) (chosen old new : List ℕ) : Type 0 where
   pub kept : take (length old) new ≡ old
   pub longer : length old ≤ length new
   pub ascending : (j k a b : ℕ) → length old ≤ j → j < k → slice_get new j ≡ Some a → slice_get new k ≡ Some b → a < b
-  pub all : (found : Match) (number : ℕ) → IsListedFrom task (chosen ++ number ∷ []) found
+  pub all : (found : Match) (number : ℕ) → IsListedFrom task (chosen ++ number ∷ []) found → IsFindable task found
       → (k : ℕ) × (length old ≤ k) × (slice_get new k ≡ Some number)
 
--- the list has of what is so the first ones, in order
-pub record IsFirstPart (IsSo : Match → Type 0) (list : List Match) : Type 0 where
+-- the list has ones of which it is so, in order: of those that can be found the first
+pub record IsFirstPart (IsSo CanFind : Match → Type 0) (list : List Match) : Type 0 where
   pub each : (found : Match) → Contains list found → IsSo found
   pub ordered : AllPairs StandsBefore list
-  pub later : (found : Match) → IsSo found → Contains list found ⊎ ((other : Match) → Contains list other → StandsBefore other found)
+  pub later : (found : Match) → IsSo found → CanFind found
+      → Contains list found ⊎ ((other : Match) → Contains list other → StandsBefore other found)
 
--- what takes matches was given of what is so the first ones in turn, and all of them if it wanted more to the end
-pub record Gives {S : Type 0} (takes : S → Match → S → Type 0) (IsSo : Match → Type 0) (old new : S) (more : Bool) : Type 0 where
+-- what takes matches was given ones of which it is so, in turn: of those that can be found the first, and all if it wanted more to
+-- the end
+pub record Gives {S : Type 0} (takes : S → Match → S → Type 0) (IsSo CanFind : Match → Type 0) (old new : S) (more : Bool) : Type 0 where
   pub list : List Match
-  pub first : IsFirstPart IsSo list
-  pub whole : more ≡ true → (found : Match) → IsSo found → Contains list found
+  pub first : IsFirstPart IsSo CanFind list
+  pub whole : more ≡ true → (found : Match) → IsSo found → CanFind found → Contains list found
   pub taken : TakesInTurn takes old list new

@@ -2,21 +2,16 @@
 //! other atoms look up where a row stands at this one. A row that came or changed is listed anew; what was listed before may stay,
 //! since each row is looked at again where it is found.
 
-ghost use Rattle.std.specs.Prelude.{◌≡◌, ◌↔◌, ◌<◌, ◌≤◌, ◌∷◌, [], ℕ, AllPairs, Contains, Some, slice_get, length, IfOk, OnOk, IfSome, IfNone};
+ghost use Rattle.std.specs.Prelude.{◌≡◌, ◌↔◌, ◌<◌, ◌≤◌, ℕ, AllPairs, Contains, length, IfOk, OnOk};
 ghost use Rattle.rule_core.specs.Validity.{occurrences};
 ghost use Rattle.body_match.specs.declared.found.Match.{Match};
-ghost use Rattle.body_match.specs.Index.{Grows, Lists, ListsRow, IsUnequal};
+ghost use Rattle.body_match.specs.Index.{Grows, Lists, ListsRow};
 ghost use Rattle.body_match.specs.Matches.{IsMatch, StandsBefore};
-ghost use Rattle.body_match.specs.Search.{IsListedFrom};
-ghost use Rattle.body_match.specs.Unequal.{Differ};
-ghost use Rattle.body_match.specs.declared.plan.Plan.{Plan};
-ghost use Rattle.body_match.specs.Plans.{ArePlans, CanSearch, HasNone, HaveNone, IsIndex, IsPutBack};
+ghost use Rattle.body_match.specs.Plans.{ArePlans, IsIndex};
 
 use crate::Match;
 use crate::plan::{Plan, list_plans};
-use crate::search::{Search, visit_from};
-use crate::unequal::Unequal;
-use crate::using::{match_back, matches_in};
+use crate::using::matches_in;
 use fact_table::FactSource;
 use rule_core::Atom;
 use std::alloc::Global;
@@ -95,23 +90,6 @@ impl BodyIndex {
         matches_in(self.alloc, self.plans(), source, row, steps)
     }
 
-    /// Some match that uses the row and gives the two variables different values, or none exactly where there is none.
-    pub fn unequal_match<F: FactSource, L: Ledger>(
-        &self,
-        source: &F,
-        row: usize,
-        left: u32,
-        right: u32,
-        steps: &mut Steps<L>,
-    ) -> Result<Option<Match>, Memory>
-        requires lists { Lists self.now (F.rows source.now) }
-        ensures some { IfOk result (λ found. IfSome found (IsUnequal self.now (F.rows source.now) row left right)) }
-        ensures none { IfOk result (λ found. IfNone found
-            ((m : Match) → ¬ (IsUnequal self.now (F.rows source.now) row left right m))) }
-    {
-        unequal_of(self.alloc, self.plans(), source, row, left, right, steps)
-    }
-
     // The plans.
     fn plans(&self) -> &[Plan]
         ensures value { result.now ≡ self.now.plans }
@@ -137,78 +115,4 @@ pub fn plans_of<F: FactSource, L: Ledger>(
         plans.push(Plan::make(alloc, body, vars, first, source, steps)?)?;
     }
     Ok(plans)
-}
-
-// Some match with different values of the two variables in which the row stands at the first atom of one of the plans.
-fn unequal_of<F: FactSource, L: Ledger>(
-    alloc: Global,
-    plans: &[Plan],
-    source: &F,
-    row: usize,
-    left: u32,
-    right: u32,
-    steps: &mut Steps<L>,
-) -> Result<Option<Match>, Memory>
-    requires { (k : ℕ) (plan : Plan) → slice_get plans.now k ≡ Some plan → CanSearch plan (F.rows source.now) }
-    ensures some { IfOk result (λ found. IfSome found (λ m. (plan : Plan) × Contains plans.now plan
-        × IsPutBack plan (F.rows source.now) row left right m)) }
-    ensures none { IfOk result (λ found. IfNone found
-        (HaveNone plans.now (F.rows source.now) row left right (length plans.now))) }
-{
-    for plan in plans {
-        if let Some(found) = unequal_in(alloc, plan, source, row, left, right, steps)? {
-            return Ok(Some(found));
-        }
-    }
-    Ok(None)
-}
-
-// Some match with different values of the two variables in which the row stands at the first atom of a plan.
-fn unequal_in<F: FactSource, L: Ledger>(
-    alloc: Global,
-    plan: &Plan,
-    source: &F,
-    row: usize,
-    left: u32,
-    right: u32,
-    steps: &mut Steps<L>,
-) -> Result<Option<Match>, Memory>
-    requires { CanSearch plan.now (F.rows source.now) }
-    ensures some { IfOk result (λ found. IfSome found
-        (IsPutBack plan.now (F.rows source.now) row left right)) }
-    ensures none { IfOk result (λ found. IfNone found
-        (HasNone plan.now (F.rows source.now) row left right)) }
-{
-    let (body, places) = (plan.body.as_slice(), plan.places.as_slice());
-    let search = Search::new(body, places, source, plan.levels.as_slice());
-    let Some(found) = first_unequal(alloc, &search, row, left, right, steps)? else {
-        return Ok(None);
-    };
-    let back = match_back(alloc, plan.order.as_slice(), found)?;
-    Ok(Some(back))
-}
-
-// The first match with different values of the two variables that has the row at the first atom.
-fn first_unequal<F: FactSource, L: Ledger>(
-    alloc: Global,
-    search: &Search<'_, F>,
-    row: usize,
-    left: u32,
-    right: u32,
-    steps: &mut Steps<L>,
-) -> Result<Option<Match>, Memory>
-    requires { 1 ≤ length search.now.body }
-    ensures some { IfOk result (λ found. IfSome found (λ m.
-        IsListedFrom search.now (row ∷ []) m × Differ left right m)) }
-    ensures none { IfOk result (λ found. IfNone found ((m : Match)
-        → IsListedFrom search.now (row ∷ []) m → ¬ (Differ left right m))) }
-{
-    let mut unequal = Unequal {
-        alloc,
-        left,
-        right,
-        found: None,
-    };
-    visit_from(alloc, search, row, &mut unequal, steps)?;
-    Ok(unequal.found)
 }

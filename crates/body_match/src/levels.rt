@@ -1,9 +1,10 @@
 //! For each atom behind the first, the rows of its form under what stands in the columns that earlier atoms or constants tell.
 
-ghost use Rattle.std.specs.Prelude.{◌≡◌, ◌↔◌, ◌<◌, ◌≤◌, ◌+◌, ℕ, Some, All, Contains, length, IsTrue, IfOk, OnOk, IfSome, IfNone, slice_get};
+ghost use Rattle.std.specs.Prelude.{[], ◌≡◌, ◌↔◌, ◌<◌, ◌≤◌, ◌+◌, ℕ, Some, All, Contains, length, IsTrue, IfOk, OnOk, IfSome, IfNone, slice_get};
 ghost use Rattle.fact_table.specs.Rows.{HasCell, SeenRow, cell_at};
 ghost use Rattle.time_line.specs.Span.{IsSpan};
 ghost use Rattle.body_match.specs.declared.lookup.Entry.{Entry};
+ghost use Rattle.body_match.specs.Renewals.{KeepsBut, KeepsOthers, ListsEach};
 ghost use Rattle.body_match.specs.Keys.{AreBound, AreLevels, HasForm, IsBound, IsEntryOf, IsLevel, ListsOne, ListsRows, cell_number, key_of, mixed, start_number, stop_number};
 
 use crate::lookup::{Entry, Probe};
@@ -46,6 +47,28 @@ pub fn levels_of<F: FactSource, L: Ledger>(
         levels.push(level_of(alloc, &body[before], before, places, source, steps)?)?;
     }
     Ok(levels)
+}
+
+/// A level for each atom behind the first, in which no row is listed.
+pub fn bare_levels(alloc: Global, body: &[Atom], places: &[Place]) -> Result<Vec<Level>, Memory>
+    ensures size { IfOk result (λ levels. length body.now ≤ length levels.items + 1) }
+    ensures levels { IfOk result (λ levels.
+        AreLevels body.now places.now [] (length body.now) levels.items) }
+{
+    let mut levels = Vec::new(alloc);
+    for before in 1..body.len() {
+        levels.push(bare_level(alloc, &body[before], before, places)?)?;
+    }
+    Ok(levels)
+}
+
+// The level of an atom, where so many stand before it, in which no row is listed.
+fn bare_level(alloc: Global, atom: &Atom, before: usize, places: &[Place]) -> Result<Level, Memory>
+    ensures { IfOk result (IsLevel places.now [] before atom.now) }
+{
+    let columns = columns_of(alloc, atom, before, places)?;
+    let listed = Register::make(alloc, Vec::new(alloc))?;
+    Ok(Level { columns, listed })
 }
 
 // The level of an atom, where so many stand before it.
@@ -152,6 +175,7 @@ fn entry_for<F: FactSource, L: Ledger>(
         → HasForm (F.rows source.now) atom.now row seen
         → IsEntryOf (F.rows source.now) columns.now row seen entry) }
     ensures none { IfNone result ((seen : SeenRow) → ¬ (HasForm (F.rows source.now) atom.now row seen)) }
+    ensures row { IfSome result (λ entry. entry.row ≡ row) }
 {
     let head = source.head(row)?;
     if !has_form(&head, atom) {
@@ -181,6 +205,85 @@ pub fn list_in<F: FactSource, L: Ledger>(
         Some(entry) => level.listed.add(alloc, entry),
         None => Ok(()),
     }
+}
+
+/// Drops rows, and lists others, each if it has the atom's form.
+pub fn renew_in<F: FactSource, L: Ledger>(
+    alloc: Global,
+    atom: &Atom,
+    level: &mut Level,
+    source: &F,
+    gone: &[usize],
+    fresh: &[usize],
+    steps: &mut Steps<L>,
+) -> Result<(), Memory>
+    requires { (column : ℕ) → Contains level.old.columns.items column → column < length atom.now.args }
+    ensures columns { level.new.columns.items ≡ level.old.columns.items }
+    ensures kept { OnOk result (KeepsBut gone.now level.old.listed level.new.listed) }
+    ensures listed { OnOk result
+        (ListsEach (F.rows source.now) atom.now level.new.columns.items fresh.now level.new.listed) }
+{
+    let columns = level.columns.as_slice();
+    drop_rows(alloc, atom, columns, &mut level.listed, source, gone, steps)?;
+    let entries = entries_among(alloc, atom, columns, source, fresh, steps)?;
+    level.listed.add_all(alloc, entries)
+}
+
+// Drops rows, each if it has the atom's form.
+fn drop_rows<F: FactSource, L: Ledger>(
+    alloc: Global,
+    atom: &Atom,
+    columns: &[usize],
+    listed: &mut Register,
+    source: &F,
+    rows: &[usize],
+    steps: &mut Steps<L>,
+) -> Result<(), Memory>
+    requires { (column : ℕ) → Contains columns.now column → column < length atom.now.args }
+    ensures { OnOk result (KeepsBut rows.now listed.old listed.new) }
+{
+    for row in rows {
+        drop_row(alloc, atom, columns, listed, source, *row, steps)?;
+    }
+    Ok(())
+}
+
+// Drops a row, if it has the atom's form.
+fn drop_row<F: FactSource, L: Ledger>(
+    alloc: Global,
+    atom: &Atom,
+    columns: &[usize],
+    listed: &mut Register,
+    source: &F,
+    row: usize,
+    steps: &mut Steps<L>,
+) -> Result<(), Memory>
+    requires { (column : ℕ) → Contains columns.now column → column < length atom.now.args }
+    ensures { OnOk result (KeepsOthers row listed.old listed.new) }
+{
+    match entry_for(atom, columns, source, row, steps) {
+        Some(entry) => listed.drop_entry(alloc, &entry),
+        None => Ok(()),
+    }
+}
+
+// Those of the rows that have the atom's form, each under the key of its cells in the columns.
+fn entries_among<F: FactSource, L: Ledger>(
+    alloc: Global,
+    atom: &Atom,
+    columns: &[usize],
+    source: &F,
+    rows: &[usize],
+    steps: &mut Steps<L>,
+) -> Result<Vec<Entry>, Memory>
+    requires { (column : ℕ) → Contains columns.now column → column < length atom.now.args }
+    ensures { IfOk result (λ entries. ListsEach (F.rows source.now) atom.now columns.now rows.now entries.items) }
+{
+    let mut entries = Vec::new(alloc);
+    for row in rows {
+        add_row(atom, columns, source, *row, &mut entries, steps)?;
+    }
+    Ok(entries)
 }
 
 // The entry of a row under a key, with its span.

@@ -5,11 +5,16 @@
 //! common. So there is one match: the rows 0 and 1, with x = a and y = b, over 4 to 5. The third row is not looked at.
 #![tactic(auto)]
 
+mod choice;
+mod directory;
+mod equality;
+mod exact;
 mod found;
 mod index;
 pub mod laws;
 mod levels;
 mod listing;
+mod looked;
 mod lookup;
 mod places;
 mod plan;
@@ -19,6 +24,7 @@ mod unequal;
 mod using;
 mod visit;
 
+pub use equality::EqualityIndex;
 pub use found::Match;
 pub use index::BodyIndex;
 pub use listing::{matches, matches_with};

@@ -4,8 +4,12 @@
 
 ghost use Rattle.std.specs.Prelude.{◌≡◌, ◌↔◌, ◌≤◌, ◌<◌, ◌+◌, ◌*◌, ◌≤ℤ◌, ◌^◌, ℕ, Contains, length, slice_get, Some, IsTrue, IfOk, IfSome, OnOk};
 ghost use Rattle.body_match.specs.declared.lookup.Entry.{Entry};
-ghost use Rattle.body_match.specs.Lookup.{IsSought, Encloses, Includes, AreInLeaves, AreJoined, IsSoughtBelow, AddsBelow, Keeps, HasSought, IsTree};
+ghost use Rattle.body_match.specs.Directory.{IsWithin};
+ghost use Rattle.body_match.specs.declared.lookup.Reach.{Reach};
+ghost use Rattle.body_match.specs.Renewals.{IsLive, IsRowAt, KeepsOthers};
+ghost use Rattle.body_match.specs.Lookup.{IsSought, Encloses, Includes, AreInLeaves, AreJoined, IsSoughtBelow, AddsBelow, AddsWithin, Keeps, HasSought, IsTree};
 
+use crate::directory::{Stretch, stretch_of, stretches_of};
 use std::alloc::Global;
 use std::marker::Model;
 use term_core::Memory;
@@ -13,13 +17,16 @@ use term_core::Memory;
 /// How many entries stand below each leaf of the tree.
 const GROUP: usize = 8;
 
-/// A row under a key: it has no instant before `from`, and none at `to` or later.
+/// How many entries are gone through rather than sought by the tree.
+const MANY: usize = 32;
+
+/// A row under a key: it has no instant before `from`, and none at `to` or later. One that was dropped has no instant at all.
 #[derive(Clone, Copy, Debug, PartialEq, Eq, PartialOrd, Ord)]
 pub struct Entry {
     pub key: u64,
     pub from: i64,
-    pub to: i64,
     pub row: usize,
+    pub to: i64,
 }
 
 /// A key, and between which instants a row is sought.
@@ -120,12 +127,14 @@ fn is_sought(entry: &Entry, probe: &Probe) -> bool
 }
 
 /// Entries, and the reach of each node of the tree above them. The nodes below the one at `n` stand at `2 * n` and at
-/// `2 * n + 1`. The leaves begin at `leaves`.
+/// `2 * n + 1`. The leaves begin at `leaves`. So many entries were dropped.
 #[derive(Drop)]
 pub struct Lookup {
     entries: Vec<Entry>,
     reaches: Vec<Reach>,
     leaves: usize,
+    stretches: Vec<Stretch>,
+    dropped: usize,
 }
 
 impl Model for Lookup {
@@ -133,9 +142,9 @@ impl Model for Lookup {
 
     ghost Value = { Tree };
 
-    ghost view = { λ l. tree_of l.entries.items l.reaches.items l.leaves };
+    ghost view = { λ l. tree_of l.entries.items l.reaches.items l.leaves l.stretches.items };
 
-    ghost invariant = { λ l. IsTree (tree_of l.entries.items l.reaches.items l.leaves) };
+    ghost invariant = { λ l. IsTree (tree_of l.entries.items l.reaches.items l.leaves l.stretches.items) };
 }
 
 impl Lookup {
@@ -151,10 +160,14 @@ impl Lookup {
         };
         let mut reaches = leaf_reaches(alloc, entries.as_slice(), leaves)?;
         join_up(&mut reaches, leaves);
+        let stretches = stretches_of(alloc, entries.as_slice())?;
+        let dropped = count_dropped(entries.as_slice());
         Ok(Lookup {
             entries,
             reaches,
             leaves,
+            stretches,
+            dropped,
         })
     }
 
@@ -173,8 +186,50 @@ impl Lookup {
             entries,
             reaches: _,
             leaves: _,
+            stretches: _,
+            dropped: _,
         } = self;
         entries
+    }
+
+    /// Drops the entry of a row, if it is there. Where more than half of the entries were dropped, only the others are kept.
+    pub fn drop_entry(&mut self, alloc: Global, entry: &Entry) -> Result<(), Memory>
+        ensures { OnOk result (KeepsOthers entry.now.row self.old.entries self.new.entries) }
+    {
+        let Some(at) = self.place_of(entry) else {
+            return Ok(());
+        };
+        self.mark(at, entry.row);
+        if self.dropped <= self.entries.len() / 2 {
+            return Ok(());
+        }
+        let rest = others_than(alloc, entry.row, self.entries.as_slice())?;
+        *self = Lookup::make(alloc, rest)?;
+        Ok(())
+    }
+
+    // Where an entry stands that has the key, the start and the row of this one, and was not dropped.
+    fn place_of(&self, entry: &Entry) -> Option<usize>
+        ensures { IfSome result (IsRowAt self.now.entries entry.now.row) }
+    {
+        let least = Entry {
+            to: i64::MIN,
+            ..*entry
+        };
+        let at = self.entries.partition_point(|other| *other < least);
+        let found = self.entries.get(at)?;
+        let same = found.key == entry.key && found.from == entry.from && found.row == entry.row;
+        (same && is_live(found)).then_some(at)
+    }
+
+    // Drops the entry at a place, which is one of the row.
+    fn mark(&mut self, at: usize, row: usize)
+        requires { IsRowAt self.old.entries row at }
+        ensures { KeepsOthers row self.old.entries self.new.entries }
+    {
+        let entry = &mut self.entries[at];
+        *entry = dropped(*entry);
+        self.dropped = self.dropped.saturating_add(1);
     }
 
     /// Adds at least the rows that are sought.
@@ -182,7 +237,41 @@ impl Lookup {
         ensures sought { OnOk result (HasSought self.now.entries probe.now rows.new.items) }
         ensures kept { OnOk result (Keeps rows.old.items rows.new.items) }
     {
-        self.gather_below(self.root(), probe, rows)
+        match self.few_of(probe.key) {
+            Some(stretch) => self.gather_stretch(stretch, probe, rows),
+            None => self.gather_below(self.root(), probe, rows),
+        }
+    }
+
+    // The stretch of a key, if it has few places.
+    fn few_of(&self, key: u64) -> Option<Stretch>
+        ensures within { IfSome result (λ stretch. (at : ℕ) (entry : Entry)
+            → slice_get self.now.entries at ≡ Some entry → entry.key ≡ key → IsWithin stretch at) }
+        ensures tree { IsTree self.now }
+    {
+        let stretch = stretch_of(self.stretches.as_slice(), key)?;
+        if stretch.end.saturating_sub(stretch.first) > MANY {
+            return None;
+        }
+        Some(stretch)
+    }
+
+    // Adds at least those that are sought within a stretch.
+    fn gather_stretch(
+        &self,
+        stretch: Stretch,
+        probe: &Probe,
+        rows: &mut Vec<usize>,
+    ) -> Result<(), Memory>
+        ensures { OnOk result
+            (AddsWithin self.now.entries stretch probe.now rows.old.items rows.new.items) }
+    {
+        let entries = self.entries();
+        let end = entries.len().min(stretch.end);
+        for at in stretch.first..end {
+            add_if_sought(entries[at], probe, rows)?;
+        }
+        Ok(())
     }
 
     // The node that all others are below.
@@ -250,6 +339,43 @@ impl Lookup {
         }
         Ok(())
     }
+}
+
+// An entry as it is once it was dropped.
+fn dropped(entry: Entry) -> Entry
+    ensures key { result.key ≡ entry.key }
+    ensures row { result.row ≡ entry.row }
+    ensures within { (reach : Reach) → Encloses reach entry → Encloses reach result }
+{
+    Entry {
+        to: i64::MIN,
+        ..entry
+    }
+}
+
+// Whether an entry was not dropped.
+fn is_live(entry: &Entry) -> bool
+    ensures { IsTrue result ↔ IsLive entry.now }
+{
+    entry.to != i64::MIN
+}
+
+// How many entries were dropped.
+fn count_dropped(entries: &[Entry]) -> usize {
+    entries.iter().filter(|entry| !is_live(entry)).count()
+}
+
+/// The entries that were not dropped and are not those of a row.
+pub fn others_than(alloc: Global, row: usize, entries: &[Entry]) -> Result<Vec<Entry>, Memory>
+    ensures { IfOk result (λ rest. KeepsOthers row entries.now rest.items) }
+{
+    let mut rest = Vec::new(alloc);
+    for entry in entries {
+        if entry.row != row && is_live(entry) {
+            rest.push(*entry)?;
+        }
+    }
+    Ok(rest)
 }
 
 // How many leaves stand above so many entries.

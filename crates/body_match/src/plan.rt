@@ -6,9 +6,10 @@ ghost use Rattle.std.specs.List.{range_with_len};
 ghost use Rattle.rule_core.specs.Validity.{occurrences};
 ghost use Rattle.body_match.specs.Keys.{IsListedUnder};
 ghost use Rattle.body_match.specs.Plans.{IsOrder, IsOrdered, IsPlan, AreWithin, AreSameLevels, AreSamePlans, CanList, IsSamePlan, KeepsListed, KeepListed, IsListedFor};
+ghost use Rattle.body_match.specs.Renewals.{AreBarePlans, AreListedInEach, AreListedUnder, LevelsKeepBut, PlansKeepBut};
 ghost use Rattle.body_match.specs.declared.plan.Plan.{Plan};
 
-use crate::levels::{Level, levels_of, list_in};
+use crate::levels::{Level, bare_levels, levels_of, list_in, renew_in};
 use crate::places::{Place, first_places};
 use fact_table::FactSource;
 use rule_core::{Arg, Atom};
@@ -55,6 +56,43 @@ impl Plan {
             places,
             levels,
         })
+    }
+
+    /// A plan that begins with an atom, in which no row is listed.
+    pub fn bare(alloc: Global, body: &Items<Atom>, vars: u32, first: usize) -> Result<Plan, Memory>
+        requires first { first < length body.now }
+        requires vars { (v : ℕ) → Contains (occurrences body.now) v ↔ (v < vars) }
+        ensures { IfOk result (IsPlan body.now vars first) }
+    {
+        let order = order_from(alloc, body.as_slice(), first)?;
+        let body = atoms_in(alloc, body.as_slice(), order.as_slice())?;
+        let places = first_places(alloc, body.as_slice(), vars)?;
+        let levels = bare_levels(alloc, body.as_slice(), places.as_slice())?;
+        Ok(Plan {
+            order,
+            body,
+            places,
+            levels,
+        })
+    }
+
+    /// Drops rows, and lists others, each for each atom behind the first whose form it has.
+    pub fn renew<F: FactSource, L: Ledger>(
+        &mut self,
+        alloc: Global,
+        source: &F,
+        gone: &[usize],
+        fresh: &[usize],
+        steps: &mut Steps<L>,
+    ) -> Result<(), Memory>
+        requires { CanList self.old }
+        ensures same { IsSamePlan self.old self.new }
+        ensures kept { OnOk result (LevelsKeepBut gone.now self.old.levels.items self.new.levels.items) }
+        ensures listed { OnOk result
+            (AreListedUnder self.new.body self.new.levels.items (F.rows source.now) fresh.now) }
+    {
+        let body = self.body.as_slice();
+        renew_levels(alloc, body, &mut self.levels, source, gone, fresh, steps)
     }
 
     /// Lists a row for each atom behind the first whose form it has.
@@ -124,6 +162,63 @@ pub fn list_plans<F: FactSource, L: Ledger>(
         plan.list_row(alloc, source, row, steps)?;
     }
     Ok(())
+}
+
+// Drops rows, and lists others, each for each atom behind the first whose form it has.
+fn renew_levels<F: FactSource, L: Ledger>(
+    alloc: Global,
+    body: &[Atom],
+    levels: &mut Vec<Level>,
+    source: &F,
+    gone: &[usize],
+    fresh: &[usize],
+    steps: &mut Steps<L>,
+) -> Result<(), Memory>
+    requires size { length body.now ≤ length levels.old.items + 1 }
+    requires within { AreWithin body.now levels.old.items }
+    ensures same { AreSameLevels levels.old.items levels.new.items }
+    ensures kept { OnOk result (LevelsKeepBut gone.now levels.old.items levels.new.items) }
+    ensures listed { OnOk result
+        (AreListedUnder body.now levels.new.items (F.rows source.now) fresh.now) }
+{
+    for before in 1..body.len() {
+        let level = &mut levels[before - 1];
+        renew_in(alloc, &body[before], level, source, gone, fresh, steps)?;
+    }
+    Ok(())
+}
+
+/// Drops rows, and lists others, for each plan.
+pub fn renew_plans<F: FactSource, L: Ledger>(
+    alloc: Global,
+    plans: &mut Vec<Plan>,
+    source: &F,
+    gone: &[usize],
+    fresh: &[usize],
+    steps: &mut Steps<L>,
+) -> Result<(), Memory>
+    requires { (k : ℕ) (plan : Plan) → slice_get plans.old.items k ≡ Some plan → CanList plan }
+    ensures same { AreSamePlans plans.old.items plans.new.items }
+    ensures kept { OnOk result (PlansKeepBut gone.now plans.old.items plans.new.items) }
+    ensures listed { OnOk result (AreListedInEach plans.new.items (F.rows source.now) fresh.now) }
+{
+    for at in 0..plans.len() {
+        let plan = &mut plans[at];
+        plan.renew(alloc, source, gone, fresh, steps)?;
+    }
+    Ok(())
+}
+
+/// A plan for each atom, in which no row is listed.
+pub fn bare_plans(alloc: Global, body: &Items<Atom>, vars: u32) -> Result<Vec<Plan>, Memory>
+    requires { (v : ℕ) → Contains (occurrences body.now) v ↔ (v < vars) }
+    ensures { IfOk result (λ plans. AreBarePlans body.now vars plans.items (length body.now)) }
+{
+    let mut plans = Vec::with_capacity(alloc, body.len())?;
+    for first in 0..body.len() {
+        plans.push(Plan::bare(alloc, body, vars, first)?)?;
+    }
+    Ok(plans)
 }
 
 // An order of all places that begins with this one.

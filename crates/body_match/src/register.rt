@@ -5,8 +5,9 @@ ghost use Rattle.std.specs.Prelude.{◌≡◌, ◌++◌, Contains, IfOk, OnOk};
 ghost use Rattle.std.specs.Option.{option_to_list};
 ghost use Rattle.body_match.specs.declared.lookup.Entry.{Entry};
 ghost use Rattle.body_match.specs.Lookup.{HasSought, Keeps, all_in, entries_in};
+ghost use Rattle.body_match.specs.Renewals.{KeepsOthers};
 
-use crate::lookup::{Entry, Lookup, Probe, add_if_sought};
+use crate::lookup::{Entry, Lookup, Probe, add_if_sought, others_than};
 use std::alloc::Global;
 use std::marker::Model;
 use std::mem::replace;
@@ -60,6 +61,32 @@ impl Register {
         self.merge(alloc)
     }
 
+    /// Adds entries.
+    pub fn add_all(&mut self, alloc: Global, entries: Vec<Entry>) -> Result<(), Memory>
+        ensures kept { OnOk result ((other : Entry)
+            → Contains self.old other → Contains self.new other) }
+        ensures added { OnOk result ((entry : Entry)
+            → Contains entries.items entry → Contains self.new entry) }
+    {
+        let mut entries = entries;
+        self.last.append(&mut entries)?;
+        if self.last.len() < FEW {
+            return Ok(());
+        }
+        self.merge(alloc)
+    }
+
+    /// Drops the entry of a row, where it is found by its key and its start. The entries of all other rows stay.
+    pub fn drop_entry(&mut self, alloc: Global, entry: &Entry) -> Result<(), Memory>
+        ensures { OnOk result (KeepsOthers entry.now.row self.old self.new) }
+    {
+        drop_in(alloc, &mut self.lookups, entry)?;
+        if has_row(self.last.as_slice(), entry.row) {
+            self.last = others_than(alloc, entry.row, self.last.as_slice())?;
+        }
+        Ok(())
+    }
+
     // Makes a look-up of the entries that came last, and of those look-ups that have no more than twice as many.
     fn merge(&mut self, alloc: Global) -> Result<(), Memory>
         ensures { OnOk result ((entry : Entry)
@@ -91,6 +118,22 @@ fn take_small(lookups: &mut Vec<Lookup>, entries: &mut Vec<Entry>) -> Result<(),
     };
     entries.append(&mut lookup.into_entries())?;
     take_small(lookups, entries)
+}
+
+// Drops the entry of a row from look-ups.
+fn drop_in(alloc: Global, lookups: &mut Vec<Lookup>, entry: &Entry) -> Result<(), Memory>
+    ensures { OnOk result (KeepsOthers entry.now.row (all_in lookups.old.items) (all_in lookups.new.items)) }
+{
+    for at in 0..lookups.len() {
+        let lookup = &mut lookups[at];
+        lookup.drop_entry(alloc, entry)?;
+    }
+    Ok(())
+}
+
+// Whether one of the entries is one of the row.
+fn has_row(entries: &[Entry], row: usize) -> bool {
+    entries.iter().any(|entry| entry.row == row)
 }
 
 // Adds at least the rows that are sought in look-ups.

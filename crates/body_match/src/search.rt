@@ -7,7 +7,7 @@ ghost use Rattle.fact_table.specs.Rows.{HasCell, cell_at, head_at, row_at};
 ghost use Rattle.body_match.specs.declared.found.Match.{Match};
 ghost use Rattle.body_match.specs.Matches.{IsMatch};
 ghost use Rattle.body_match.specs.Keys.{key_of};
-ghost use Rattle.body_match.specs.Search.{IsTask, Agrees, AddsNext, Gives, HasNext, IsPartial, IsListedFrom, task_of, cell_in, placed_value, value_in};
+ghost use Rattle.body_match.specs.Search.{IsTask, Agrees, AddsNext, Gives, HasNext, IsFindable, IsPartial, IsListedFrom, task_of, cell_in, placed_value, value_in};
 
 use crate::levels::{Level, has_form, mix, probe_of};
 use crate::places::Place;
@@ -118,8 +118,8 @@ pub struct Walk {
     values: Vec<Seen>,
 }
 
-/// Gives a visitor all matches that are searched for in turn, in order, until it wants no more. Answers whether it wanted more
-/// to the end.
+/// Gives a visitor matches that are searched for in turn, in order, until it wants no more: at least those whose rows behind the
+/// first are listed. Answers whether it wanted more to the end.
 pub fn visit_all<F: FactSource, V: Visitor, L: Ledger>(
     alloc: Global,
     search: &Search<'_, F>,
@@ -127,7 +127,7 @@ pub fn visit_all<F: FactSource, V: Visitor, L: Ledger>(
     steps: &mut Steps<L>,
 ) -> Result<bool, Memory>
     ensures gives { IfOk result (Gives V.takes (IsMatch search.now.body (length search.now.places) search.now.rows)
-        visitor.old visitor.new) }
+        (IsFindable search.now) visitor.old visitor.new) }
     ensures stops { IfOk result (λ more. more ≡ false → V.stops visitor.new) }
 {
     let mut walk = Walk {
@@ -149,11 +149,53 @@ pub fn visit_from<F: FactSource, V: Visitor, L: Ledger>(
 ) -> Result<bool, Memory>
     requires { 1 ≤ length search.now.body }
     ensures gives { IfOk result (Gives V.takes (IsListedFrom search.now (row ∷ []))
-        visitor.old visitor.new) }
+        (IsFindable search.now) visitor.old visitor.new) }
     ensures stops { IfOk result (λ more. more ≡ false → V.stops visitor.new) }
 {
     let mut walk = walk_for(alloc, search)?;
     extend_by(alloc, search, &mut walk, &always(), row, visitor, steps)
+}
+
+/// The match with these rows, one for each atom, if there is one.
+pub fn match_of<F: FactSource, L: Ledger>(
+    alloc: Global,
+    search: &Search<'_, F>,
+    rows: Vec<usize>,
+    steps: &mut Steps<L>,
+) -> Result<Option<Match>, Memory>
+    requires { length rows.items ≡ length search.now.body }
+    ensures some { IfOk result (λ found. IfSome found (IsListedFrom search.now rows.items)) }
+    ensures none { IfOk result (λ found. IfNone found
+        ((m : Match) → ¬ (IsListedFrom search.now rows.items m))) }
+{
+    let Some(span) = span_of(search, rows.as_slice(), steps) else {
+        return Ok(None);
+    };
+    let places = search.places();
+    let mut values = Vec::with_capacity(alloc, places.len())?;
+    take_values(search, rows.as_slice(), places, &mut values, steps)?;
+    Ok(Some(Match {
+        rows: Items::from_vec(rows),
+        binding: Items::from_vec(values),
+        span,
+    }))
+}
+
+// What the rows have in common, where each is its atom's image and there is such an instant.
+fn span_of<F: FactSource, L: Ledger>(
+    search: &Search<'_, F>,
+    rows: &[usize],
+    steps: &mut Steps<L>,
+) -> Option<Span>
+    requires { length rows.now ≡ length search.now.body }
+    ensures some { IfSome result (IsPartial search.now rows.now) }
+    ensures none { IfNone result ((m : Match) → ¬ (IsListedFrom search.now rows.now m)) }
+{
+    let mut span = always();
+    for at in 0..rows.len() {
+        span = common_span(search, &rows[..at], &span, rows[at], steps)?;
+    }
+    Some(span)
 }
 
 // No row chosen yet, with room for what a match has.
@@ -189,7 +231,7 @@ fn extend<F: FactSource, V: Visitor, L: Ledger>(
     ensures chosen { OnOk result (walk.new.chosen.items ≡ walk.old.chosen.items) }
     ensures next { OnOk result (walk.new.next.items ≡ walk.old.next.items) }
     ensures gives { IfOk result (Gives V.takes (IsListedFrom search.now walk.old.chosen.items)
-        visitor.old visitor.new) }
+        (IsFindable search.now) visitor.old visitor.new) }
     ensures stops { IfOk result (λ more. more ≡ false → V.stops visitor.new) }
 {
     if walk.chosen.len() == search.body().len() {
@@ -224,7 +266,8 @@ fn extend_by<F: FactSource, V: Visitor, L: Ledger>(
     ensures chosen { OnOk result (walk.new.chosen.items ≡ walk.old.chosen.items) }
     ensures next { OnOk result (walk.new.next.items ≡ walk.old.next.items) }
     ensures gives { IfOk result (Gives V.takes
-        (IsListedFrom search.now (walk.old.chosen.items ++ row ∷ [])) visitor.old visitor.new) }
+        (IsListedFrom search.now (walk.old.chosen.items ++ row ∷ [])) (IsFindable search.now)
+        visitor.old visitor.new) }
     ensures stops { IfOk result (λ more. more ≡ false → V.stops visitor.new) }
 {
     let Some(common) = common_span(search, walk.chosen.as_slice(), span, row, steps) else {
@@ -440,7 +483,7 @@ fn give<F: FactSource, V: Visitor, L: Ledger>(
     ensures chosen { OnOk result (walk.new.chosen.items ≡ walk.old.chosen.items) }
     ensures next { OnOk result (walk.new.next.items ≡ walk.old.next.items) }
     ensures gives { IfOk result (Gives V.takes (IsListedFrom search.now walk.old.chosen.items)
-        visitor.old visitor.new) }
+        (IsFindable search.now) visitor.old visitor.new) }
     ensures stops { IfOk result (λ more. more ≡ false → V.stops visitor.new) }
 {
     let places = search.places();

@@ -6,7 +6,7 @@ ghost use Rattle.std.specs.List.{range_with_len};
 ghost use Rattle.body_match.specs.declared.found.Match.{Match};
 ghost use Rattle.body_match.specs.declared.plan.Plan.{Plan};
 ghost use Rattle.body_match.specs.Plans.{IsBack, CanSearch, task_in};
-ghost use Rattle.body_match.specs.Search.{IsListedFrom};
+ghost use Rattle.body_match.specs.Search.{IsListedFrom, ListsAll};
 ghost use Rattle.body_match.specs.Using.{AddsBack, AreAllInOrder, AreInOrder};
 
 use crate::Match;
@@ -26,7 +26,9 @@ pub fn matches_in<F: FactSource, L: Ledger>(
     row: usize,
     steps: &mut Steps<L>,
 ) -> Result<Items<Match>, Memory>
-    requires { (k : ℕ) (plan : Plan) → slice_get plans.now k ≡ Some plan → CanSearch plan (F.rows source.now) }
+    requires search { (k : ℕ) (plan : Plan) → slice_get plans.now k ≡ Some plan → CanSearch plan (F.rows source.now) }
+    requires lists { (k : ℕ) (plan : Plan) → slice_get plans.now k ≡ Some plan
+        → ListsAll (task_in plan (F.rows source.now)) }
     ensures { IfOk result (AreAllInOrder plans.now (F.rows source.now) row) }
 {
     let mut list = Vec::new(alloc);
@@ -56,7 +58,8 @@ fn add_from<F: FactSource, L: Ledger>(
     list: &mut Vec<Match>,
     steps: &mut Steps<L>,
 ) -> Result<(), Memory>
-    requires { CanSearch plan.now (F.rows source.now) }
+    requires search { CanSearch plan.now (F.rows source.now) }
+    requires lists { ListsAll (task_in plan.now (F.rows source.now)) }
     ensures { OnOk result (AddsBack plan.now.order.items
         (IsListedFrom (task_in plan.now (F.rows source.now)) (row ∷ [])) list.old.items list.new.items) }
 {
@@ -73,7 +76,8 @@ fn all_from<F: FactSource, L: Ledger>(
     row: usize,
     steps: &mut Steps<L>,
 ) -> Result<Vec<Match>, Memory>
-    requires { 1 ≤ length search.now.body }
+    requires some { 1 ≤ length search.now.body }
+    requires lists { ListsAll search.now }
     ensures { IfOk result (λ list. (m : Match)
         → Contains list.items m ↔ IsListedFrom search.now (row ∷ []) m) }
 {
@@ -85,8 +89,8 @@ fn all_from<F: FactSource, L: Ledger>(
     Ok(list.list)
 }
 
-// Adds matches to a list, each with its rows put back from an order.
-fn add_back(
+/// Adds matches to a list, each with its rows put back from an order.
+pub fn add_back(
     alloc: Global,
     order: &[usize],
     found: Vec<Match>,

@@ -20,15 +20,17 @@ use Rattle.null_store.specs.Store.{Store, PieceOf, IsStore, piece_at, term_in, f
 use Rattle.null_store.specs.Splits.{row_over, part_before, part_after, SplitsRow, fact_over}
 use Rattle.target_cut.specs.declared.cutting.Cut.{Cut}
 use Rattle.target_cut.specs.Cuts.{CutsComponent, IsSideOf}
-use Rattle.target_cut.proofs.ComponentLemmas.{over_span, begins}
+use Rattle.target_cut.proofs.ComponentLemmas.{over_span, begins, closed}
 use Rattle.egd_chase.specs.declared.sides.Side.{Side}
 use Rattle.egd_chase.specs.declared.cutting.Cutting.{Cutting}
 use Rattle.egd_chase.specs.Search.{ChangeOnly, HaveSpans}
+use Rattle.egd_chase.specs.Shared.{KeepsShared}
 use Rattle.egd_chase.specs.Sides.{HoldsSide, IsFitted, IsUnknownTerm}
 use Rattle.egd_chase.specs.Cutting.{IsCutTo, StartsWith, KeepsFit}
 use Rattle.egd_chase.proofs.ListLemmas.{in_list}
 use Rattle.egd_chase.proofs.WaitLemmas.{is_among, change_twice}
 use Rattle.egd_chase.proofs.TurnLemmas.{cut_more}
+use Rattle.egd_chase.proofs.SharedLemmas.{cut_keeps, more_keep}
 use Rattle.egd_chase.proofs.SideLemmas.{placed, beside, one_row, side_elsewhere, side_before, side_after, cut_changes, cut_spans, not_made}
 
 -- an end of a span is not strictly inside it
@@ -162,6 +164,13 @@ module _ (own other : TermOf ConstId) (c : Ends) (first old new : Store) (ok : I
         | inr k ↦ Contains-append_left work.made.items cut.made number k
       ]
 
+  more_shared : (made : List ℕ) → made ≡ work.made.items ++ cut.made → KeepsShared made first.rows new.rows
+  more_shared made e = subst (λ list. KeepsShared list first.rows new.rows) (sym e)
+      (more_keep work.made.items cut.made first.rows old.rows new.rows was.shared
+      (cut_keeps m cut.rows cut.made old new is.rows around
+      (closed old ok work.own.row was.own_held.row was.own_held.there cut.rows is.component))
+      (cut_changes m cut.rows cut.made old new is.rows around limit was.spans))
+
   more_spans : HaveSpans new.rows
   more_spans = cut_spans m cut.rows cut.made old new is.rows around limit was.spans
 
@@ -206,6 +215,7 @@ module _ (own other : TermOf ConstId) (c : Ends) (first old new : Store) (ok : I
       other_held = other_after;
       spans = more_spans;
       only = more_changes later.made.items made;
+      shared = more_shared later.made.items made;
     }
 
     pub starts : StartsWith new c later.own
@@ -239,6 +249,7 @@ module _ (own other : TermOf ConstId) (c : Ends) (first old new : Store) (ok : I
       other_held = subst (HoldsSide new other c) (sym other_same) (side_stays other work.other was.other_held);
       spans = more_spans;
       only = more_changes later.made.items made;
+      shared = more_shared later.made.items made;
     }
 
     pub stops : StartsWith old c work.own → IsFitted new own c later.own

@@ -1,5 +1,5 @@
 -- Where settling begins, and what its two ends show.
-use Rattle.std.proofs.Common.{◌≤◌, List, [], drop, length}
+use Rattle.std.proofs.Common.{◌≤◌, List, []}
 use Rattle.std.proofs.lemmas.List.Sorted.{IsPermutation-refl}
 use Rattle.rule_core.specs.Mapping.{RuleSet}
 use Rattle.rule_core.specs.Validity.{IsValid}
@@ -8,7 +8,7 @@ use Rattle.failure_trace.specs.declared.journal.JournalStep.{JournalStep}
 use Rattle.failure_trace.specs.JournalRun.{RowOf, IsRun, IsClash}
 use Rattle.null_store.specs.Store.{Store, IsStore, facts_in}
 use Rattle.egd_chase.specs.declared.search.Search.{Search}
-use Rattle.egd_chase.specs.Search.{AreIndexes, AllWait, HaveSpans, NoneIsUnequal}
+use Rattle.egd_chase.specs.Search.{AreParts, HaveSpans, NoneIsUnequal}
 use Rattle.egd_chase.specs.Settled.{LeadsTo, LeadsToClash, AreSettledForm, HaveNoModel}
 use Rattle.egd_chase.specs.Steps.{IsUnderway}
 use Rattle.egd_chase.proofs.FormLemmas.{form_of_run, no_model_of_clash}
@@ -16,14 +16,12 @@ use Rattle.egd_chase.proofs.MatchBridge.{settled_without_unequal}
 use Rattle.egd_chase.proofs.MeasureLemmas.{comes_from_itself}
 
 -- before the first turn
-pub begins : (rules : RuleSet) (store : Store) (search : Search) → AreIndexes store.rows rules.egds search.indexes.items
-    → AllWait store.rows rules.egds (drop search.next search.waiting.items) → search.next ≤ length search.waiting.items
+pub begins : (rules : RuleSet) (store : Store) (search : Search) → AreParts store.rows rules.egds search.parts.items → 1 ≤ search.limit
     → HaveSpans store.rows → IsUnderway rules (facts_in store) store search []
-begins rules store search indexes wait within spans = record {
+begins rules store search parts limit spans = record {
   run = IsPermutation-refl (facts_in store);
-  indexes = indexes;
-  wait = wait;
-  within = within;
+  parts = parts;
+  limit = limit;
   from = comes_from_itself (facts_in store);
   spans = spans;
 }

@@ -17,9 +17,11 @@ use Rattle.failure_trace.specs.JournalRun.{CutInTurn, Equates, left_of, right_of
 use Rattle.null_store.specs.Store.{Store, facts_in}
 use Rattle.egd_chase.specs.declared.cutting.Cutting.{Cutting}
 use Rattle.egd_chase.specs.Search.{IsUnequalMatch, ChangeOnly, HaveSpans}
+use Rattle.egd_chase.specs.Shared.{KeepsShared}
 use Rattle.egd_chase.specs.Sides.{HoldsSide, Replaces, match_terms}
 use Rattle.egd_chase.specs.Cutting.{IsCutTo}
 use Rattle.egd_chase.proofs.MatchBridge.{match_is_over}
+use Rattle.egd_chase.proofs.SharedLemmas.{keeps_none}
 use Rattle.egd_chase.proofs.TurnLemmas.{sides_change}
 use Rattle.egd_chase.proofs.WaitLemmas.{change_none, change_these, change_twice}
 
@@ -33,6 +35,7 @@ module _ (l r : TermOf ConstId) (c : Ends) where
     other_held = other;
     spans = spans;
     only = change_none store.rows spans work.made.items;
+    shared = keeps_none work.made.items store.rows;
   }
 
   -- where the sides have changed places
@@ -45,6 +48,7 @@ module _ (l r : TermOf ConstId) (c : Ends) where
     other_held = subst (HoldsSide now l c) (sym other) was.own_held;
     spans = was.spans;
     only = subst (λ list. ChangeOnly list first.rows now.rows) (sym made) was.only;
+    shared = subst (λ list. KeepsShared list first.rows now.rows) (sym made) was.shared;
   }
 
 -- after the cuts and the replacement
@@ -79,7 +83,12 @@ changed old cut new made rows only spans same within number out =
       | inr k ↦ k
     ]
 
--- what follows of a list from two facts of it
+-- what follows of a list from facts of it
 pub if_ok : {T E : Type 0} {A B P : T → Type 0} (r : Result T E) → IfOk r A → IfOk r B → ((x : T) → A x → B x → P x) → IfOk r P
 if_ok (Ok x) a b f = f x a b
 if_ok (Err e) a b f = tt
+
+pub if_ok_of_three : {T E : Type 0} {A B C P : T → Type 0} (r : Result T E) → IfOk r A → IfOk r B → IfOk r C
+    → ((x : T) → A x → B x → C x → P x) → IfOk r P
+if_ok_of_three (Ok x) a b c f = f x a b c
+if_ok_of_three (Err e) a b c f = tt

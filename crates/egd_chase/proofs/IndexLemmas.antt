@@ -1,11 +1,11 @@
--- The indexes of the egds' bodies, and the rows that are looked at in turn.
-use Rattle.std.proofs.Common.{◌≡◌, ◌⊎◌, inl, inr, ◌↔◌, ℕ, zero, suc, ◌+◌, ◌<◌, ◌≤◌, Option, Some, List, [], ◌∷◌, ◌++◌, length, get_or, take, drop, refl, sym, ap, ◌∙◌, subst, arith, ⊎_elim, All, Contains}
+-- The parts of the search, and the rows that are looked at in turn.
+use Rattle.std.proofs.Common.{◌≡◌, ◌⊎◌, inl, inr, ◌↔◌, ℕ, zero, suc, ◌+◌, ◌<◌, ◌≤◌, Option, Some, List, [], ◌∷◌, ◌++◌, length, take, drop, sym, ap, ◌∙◌, subst, arith, ⊎_elim, All, Contains}
 use Rattle.std.specs.Prelude.{slice_get, slice_set}
 use Rattle.std.specs.List.{AllZip}
-use Rattle.std.proofs.lemmas.Bool.{cases_lt}
+use Rattle.std.proofs.lemmas.Bool.{cases_eq, cases_lt}
 use Rattle.std.proofs.lemmas.List.{take_more, drop_all}
-use Rattle.std.proofs.lemmas.List.Elements.{All-more, All-weaker, All-contains, Contains-append_left, Contains-append_right, Contains-append_cases}
-use Rattle.std.proofs.lemmas.Option.{get_or_from_slice_get, slice_get_within, slice_get_read}
+use Rattle.std.proofs.lemmas.List.Elements.{All-contains, Contains-append_left, Contains-append_right, Contains-append_cases}
+use Rattle.std.proofs.lemmas.Option.{get_or_from_slice_get, slice_get_within}
 use Rattle.rule_core.specs.declared.rules.Atom.{Atom}
 use Rattle.rule_core.specs.declared.rules.Egd.{Egd}
 use Rattle.rule_core.specs.declared.rules.Relation.{Relation}
@@ -13,11 +13,14 @@ use Rattle.rule_core.specs.Validity.{IsEgd, occurrences}
 use Rattle.rule_core.proofs.ListLemmas.{Contains-nil, Contains-cons_cases}
 use Rattle.fact_table.specs.Rows.{SeenRow, row_at}
 use Rattle.body_match.specs.declared.found.Match.{Match}
-use Rattle.body_match.specs.Matches.{seen_value, IsImage, IsImageAt, IsMatch}
-use Rattle.body_match.specs.Index.{Index, Grows, ListsRow, IsUnequal}
+use Rattle.body_match.specs.Matches.{seen_value, IsImageAt, IsMatch}
+use Rattle.body_match.specs.Index.{IsUnequalWith}
+use Rattle.body_match.specs.Equality.{Equality, IsShown}
 use Rattle.body_match.proofs.ListLemmas.{at_within, contains_from_at, zip_at, zip_length, zip_from_each, at_set_here, at_set_other, size_set}
-use Rattle.null_store.proofs.ListLemmas.{some_and, same_some, stands}
-use Rattle.egd_chase.specs.Search.{IsUnequalMatch, IsIndexFor, AreIndexes, ListsMore, AllWait, NoneIsUnequal}
+use Rattle.null_store.proofs.ListLemmas.{same_some, stands}
+use Rattle.egd_chase.specs.declared.search.Part.{Part}
+use Rattle.egd_chase.specs.Search.{IsUnequalMatch, IsIndexFor, IsShownMatch, IsPartFor, AreParts, AllWait, HasNoUnequal, NoneIsUnequal, CanTake, HasTaken}
+use Rattle.egd_chase.proofs.ShownLemmas.{shown_match}
 
 -- one more pair of two lists
 zip_push : {X Y : Type 0} (R : X → Y → Type 0) (xs : List X) (ys : List Y) (x : X) (y : Y) → AllZip R xs ys → R x y
@@ -27,30 +30,44 @@ zip_push R [] (b ∷ ys) x y all one = absurd all
 zip_push R (a ∷ xs) [] x y all one = absurd all
 zip_push R (a ∷ xs) (b ∷ ys) x y all one = (all.0, zip_push R xs ys x y all.1 one)
 
--- an index for one egd more
-pub one_index_more : (rows : List (Option SeenRow)) (egds : List Egd) (k : ℕ) (egd : Egd) (before after : List Index) (index : Index)
-    → slice_get egds k ≡ Some egd → after ≡ before ++ index ∷ [] → IsIndexFor rows egd index → AreIndexes rows (take k egds) before
-    → AreIndexes rows (take (k + 1) egds) after
-one_index_more rows egds k egd before after index at pushed is are =
+-- a part for one egd more
+pub one_part_more : (rows : List (Option SeenRow)) (egds : List Egd) (k : ℕ) (egd : Egd) (before after : List Part) (part : Part)
+    → slice_get egds k ≡ Some egd → after ≡ before ++ part ∷ [] → IsPartFor rows egd part → AreParts rows (take k egds) before
+    → AreParts rows (take (k + 1) egds) after
+one_part_more rows egds k egd before after part at pushed is are =
     let more : take (k + 1) egds ≡ take k egds ++ egd ∷ [] =
     take_more egds k egd (slice_get_within egds k egd at) ∙ ap (λ e. take k egds ++ e ∷ []) (get_or_from_slice_get egds k egd egd at) in
-    subst (λ l. AreIndexes rows l after) (sym more) (subst (AreIndexes rows (take k egds ++ egd ∷ [])) (sym pushed)
-    (zip_push (IsIndexFor rows) (take k egds) before egd index are is))
+    subst (λ l. AreParts rows l after) (sym more) (subst (AreParts rows (take k egds ++ egd ∷ [])) (sym pushed)
+    (zip_push (IsPartFor rows) (take k egds) before egd part are is))
 
--- the index of an egd
-pub index_at : (rows : List (Option SeenRow)) (egds : List Egd) (indexes : List Index) → AreIndexes rows egds indexes
-    → (k : ℕ) (egd : Egd) (index : Index) → slice_get egds k ≡ Some egd → slice_get indexes k ≡ Some index → IsIndexFor rows egd index
-index_at rows egds indexes are k egd index p q =
-    let h = zip_at (IsIndexFor rows) egds indexes are k egd p in
-    subst (IsIndexFor rows egd) (same_some (slice_get indexes k) h.0 index h.1 q) h.2
+-- the part of an egd, and the egd of a part
+pub part_at : (rows : List (Option SeenRow)) (egds : List Egd) (parts : List Part) → AreParts rows egds parts
+    → (k : ℕ) (egd : Egd) (part : Part) → slice_get egds k ≡ Some egd → slice_get parts k ≡ Some part → IsPartFor rows egd part
+part_at rows egds parts are k egd part p q =
+    let h = zip_at (IsPartFor rows) egds parts are k egd p in
+    subst (IsPartFor rows egd) (same_some (slice_get parts k) h.0 part h.1 q) h.2
 
-pub read_index : (rows : List (Option SeenRow)) (egds : List Egd) (indexes : List Index) → AreIndexes rows egds indexes
-    → (k : ℕ) (egd : Egd) (index : Index) → k < length egds → egd ≡ get_or egds k egd → index ≡ get_or indexes k index
-    → IsIndexFor rows egd index
-read_index rows egds indexes are k egd index l p q =
-    let size = zip_length (IsIndexFor rows) egds indexes are in
-    index_at rows egds indexes are k egd index (slice_get_read egds (length egds) k egd refl l p)
-    (slice_get_read indexes (length indexes) k index refl (omega (arith, size, l)) q)
+pub egd_of_part : (rows : List (Option SeenRow)) (egds : List Egd) (parts : List Part) → AreParts rows egds parts
+    → (k : ℕ) (part : Part) → slice_get parts k ≡ Some part → (egd : Egd) × (slice_get egds k ≡ Some egd) × IsPartFor rows egd part
+egd_of_part rows egds parts are k part at =
+    let size = zip_length (IsPartFor rows) egds parts are in
+    let l = slice_get_within parts k part at in
+    let egd = at_within egds k (omega (arith, size, l)) in
+    (egd.0, egd.1, part_at rows egds parts are k egd.0 part egd.1 at)
+
+-- one part of the list is another one now
+pub part_set : (rows : List (Option SeenRow)) (egds : List Egd) (parts : List Part) (k : ℕ) (old new : Part) → slice_get parts k ≡ Some old
+    → ((egd : Egd) → IsPartFor rows egd old → IsPartFor rows egd new) → AreParts rows egds parts → AreParts rows egds (slice_set parts k new)
+part_set rows egds parts k old new at kept are =
+    let set = slice_set parts k new in
+    zip_from_each (IsPartFor rows) egds set (zip_length (IsPartFor rows) egds parts are ∙ sym (size_set parts k new))
+    (λ j egd part p q. elim (cases_eq j k) [
+      | inl same ↦
+          let here : slice_get set k ≡ Some new = at_set_here parts k new (slice_get_within parts k old at) in
+          let one : new ≡ part = same_some (slice_get set k) new part here (ap (slice_get set) (sym same) ∙ q) in
+          subst (IsPartFor rows egd) one (kept egd (part_at rows egds parts are j egd old p (ap (slice_get parts) same ∙ at)))
+      | inr other ↦ part_at rows egds parts are j egd part p (sym (at_set_other parts k j new other) ∙ q)
+    ])
 
 -- the variables of an egd are numbered
 pub occur_below : (relations : List Relation) (egd : Egd) → IsEgd relations egd → (body : List Atom) (n : ℕ) → body ≡ egd.body
@@ -59,43 +76,50 @@ occur_below relations egd is body n same size v =
     subst (λ (atoms : List Atom). Contains (occurrences atoms) v ↔ (v < n)) (sym same)
     (subst (λ m. Contains (occurrences egd.body) v ↔ (v < m)) (sym size) (is.body_vars.same v))
 
+-- a part over no rows
+pub no_rows_yet : (relations : List Relation) (egd : Egd) → IsEgd relations egd → (part : Part) → part.index.index.body ≡ egd.body
+    → part.index.index.vars ≡ length egd.vars → part.index.left ≡ egd.left → part.index.right ≡ egd.right
+    → ((number : ℕ) → ¬ (IsShown part.index number)) → part.next ≤ length part.waiting.items → IsPartFor [] egd part
+no_rows_yet relations egd is part body vars left right none within = record {
+  index = record {
+    occur = is.body_vars.same;
+    body = body;
+    vars = vars;
+    left = left;
+    right = right;
+    shows = record { listed = λ number shown. absurd (none number shown); stand = λ number row t at fits has. absurd cc };
+  };
+  wait = λ found m.
+      let value = seen_value found.binding in
+      let atom = at_within egd.body 0 is.body.some in
+      let first = zip_at (IsImageAt [] value) egd.body found.rows m.unequal.match.images 0 atom.0 atom.1 in
+      absurd (none first.0 (All-contains (IsShown part.index) found.rows first.0 m.shown (contains_from_at found.rows 0 first.0 first.1)));
+  within = within;
+}
+
 -- what is found over an index is a match of the egd's body
-module _ (rows : List (Option SeenRow)) (egd : Egd) (index : Index) (is : IsIndexFor rows egd index) (row : ℕ) where
-  pub unequal_of_egd : (m : Match) → IsUnequal index rows row egd.left egd.right m → IsUnequalMatch rows egd m
-  unequal_of_egd m h = record {
-    match = subst (λ body. IsMatch body (length egd.vars) rows m) is.body (subst (λ vars. IsMatch index.body vars rows m) is.vars h.match);
-    unequal = h.unequal;
-  }
+module _ (rows : List (Option SeenRow)) (egd : Egd) (e : Equality) (is : IsIndexFor rows egd e) where
+  of_egd : (m : Match) → IsMatch e.index.body e.index.vars rows m → IsMatch egd.body (length egd.vars) rows m
+  of_egd m h = subst (λ body. IsMatch body (length egd.vars) rows m) is.body (subst (λ vars. IsMatch e.index.body vars rows m) is.vars h)
 
-  unequal_of_index : (m : Match) → IsUnequalMatch rows egd m → Contains m.rows row → IsUnequal index rows row egd.left egd.right m
-  unequal_of_index m h uses = record {
-    match = subst (λ vars. IsMatch index.body vars rows m) (sym is.vars)
-        (subst (λ body. IsMatch body (length egd.vars) rows m) (sym is.body) h.match);
-    uses = uses;
-    unequal = h.unequal;
-  }
+  of_index : (m : Match) → IsMatch egd.body (length egd.vars) rows m → IsMatch e.index.body e.index.vars rows m
+  of_index m h = subst (λ vars. IsMatch e.index.body vars rows m) (sym is.vars)
+      (subst (λ body. IsMatch body (length egd.vars) rows m) (sym is.body) h)
 
--- none of the first egds has a match with unequal sides that uses the row
-abbrev pub NoneBelow : List (Option SeenRow) → List Egd → ℕ → ℕ → Type 0
-NoneBelow rows egds row n = (k : ℕ) (egd : Egd) (m : Match) → k < n → slice_get egds k ≡ Some egd → IsUnequalMatch rows egd m
-    → ¬ (Contains m.rows row)
+  sides_of_egd : (m : Match) → ¬ (slice_get m.binding e.left ≡ slice_get m.binding e.right)
+      → ¬ (slice_get m.binding egd.left ≡ slice_get m.binding egd.right)
+  sides_of_egd m h same = h (ap (slice_get m.binding) is.left ∙ same ∙ ap (slice_get m.binding) (sym is.right))
 
-pub none_below_more : (rows : List (Option SeenRow)) (egds : List Egd) (row n : ℕ) (egd : Egd) (index : Index)
-    → slice_get egds n ≡ Some egd → IsIndexFor rows egd index → ((m : Match) → ¬ (IsUnequal index rows row egd.left egd.right m))
-    → NoneBelow rows egds row n → NoneBelow rows egds row (n + 1)
-none_below_more rows egds row n egd index at is none below k other m l p unequal uses = ⊎_elim
-    (λ (less : k < n). below k other m less p unequal uses)
-    (λ (not : n ≤ k).
-    let same : k ≡ n = omega (arith, l, not) in
-    let one : other ≡ egd = same_some (slice_get egds k) other egd p (ap (slice_get egds) same ∙ at) in
-    none m (unequal_of_index rows egd index is row m (subst (λ (e : Egd). IsUnequalMatch rows e m) one unequal) uses))
-    (cases_lt k n)
+  sides_of_index : (m : Match) → ¬ (slice_get m.binding egd.left ≡ slice_get m.binding egd.right)
+      → ¬ (slice_get m.binding e.left ≡ slice_get m.binding e.right)
+  sides_of_index m h same = h (ap (slice_get m.binding) (sym is.left) ∙ same ∙ ap (slice_get m.binding) is.right)
 
-pub none_of_all : (rows : List (Option SeenRow)) (egds : List Egd) (row n : ℕ) → length egds ≤ n → NoneBelow rows egds row n
-    → (k : ℕ) (egd : Egd) (m : Match) → slice_get egds k ≡ Some egd → IsUnequalMatch rows egd m → ¬ (Contains m.rows row)
-none_of_all rows egds row n long below k egd m at =
-    let l = slice_get_within egds k egd at in
-    below k egd m (omega (arith, l, long)) at
+  pub with_of_egd : (numbers : List ℕ) (m : Match) → IsUnequalWith e.index rows e.left e.right numbers m → IsUnequalMatch rows egd m
+  with_of_egd numbers m h = record { match = of_egd m h.match; unequal = sides_of_egd m h.unequal }
+
+  pub with_of_index : (numbers : List ℕ) (m : Match) → IsUnequalMatch rows egd m → m.rows ≡ numbers
+      → IsUnequalWith e.index rows e.left e.right numbers m
+  with_of_index numbers m h uses = record { match = of_index m h.match; uses = uses; unequal = sides_of_index m h.unequal }
 
 -- what stands at a place or behind it
 drop_step : (xs : List ℕ) (k x y : ℕ) → slice_get xs k ≡ Some x → Contains (drop k xs) y → (x ≡ y) ⊎ Contains (drop (suc k) xs) y
@@ -106,24 +130,46 @@ drop_step (z ∷ xs) zero x y at there = elim (Contains-cons_cases z y xs there)
 ]
 drop_step (z ∷ xs) (suc k) x y at there = drop_step xs k x y at there
 
--- a row that no match with unequal sides uses waits no longer
-pub wait_less : (rows : List (Option SeenRow)) (egds : List Egd) (waiting : List ℕ) (next row : ℕ) → slice_get waiting next ≡ Some row
-    → ((k : ℕ) (egd : Egd) (m : Match) → slice_get egds k ≡ Some egd → IsUnequalMatch rows egd m → ¬ (Contains m.rows row))
-    → AllWait rows egds (drop next waiting) → AllWait rows egds (drop (next + 1) waiting)
-wait_less rows egds waiting next row at none wait k egd found p unequal =
-    let h = wait k egd found p unequal in
+-- a row that no match of shown rows with unequal sides uses waits no longer
+pub wait_less : (rows : List (Option SeenRow)) (egd : Egd) (e : Equality) (waiting : List ℕ) (next row : ℕ) → slice_get waiting next ≡ Some row
+    → ((m : Match) → IsShownMatch rows egd e m → ¬ (Contains m.rows row)) → AllWait rows egd e (drop next waiting)
+    → AllWait rows egd e (drop (next + 1) waiting)
+wait_less rows egd e waiting next row at none wait found m =
+    let h = wait found m in
     let place : suc next ≡ next + 1 = omega arith in
     elim (drop_step waiting next row h.0 at h.1) [
-      | inl same ↦ absurd (none k egd found p unequal (subst (Contains found.rows) (sym same) h.2))
+      | inl same ↦ absurd (none found m (subst (Contains found.rows) (sym same) h.2))
       | inr later ↦ (h.0, subst (λ n. Contains (drop n waiting) h.0) place later, h.2)
     ]
 
--- where no row waits, there is no match with unequal sides
-pub none_waits : (rows : List (Option SeenRow)) (egds : List Egd) (waiting : List ℕ) (next : ℕ) → length waiting ≤ next
-    → AllWait rows egds (drop next waiting) → NoneIsUnequal rows egds
-none_waits rows egds waiting next long wait k egd found p unequal =
-    let h = wait k egd found p unequal in
-    Contains-nil h.0 (subst (λ l. Contains l h.0) (drop_all next waiting long) h.1)
+-- where no row waits, the egd has no match with unequal sides
+pub none_waits : (rows : List (Option SeenRow)) (egd : Egd) (part : Part) → IsPartFor rows egd part → length part.waiting.items ≤ part.next
+    → HasNoUnequal rows egd
+none_waits rows egd part is long found unequal =
+    let m = shown_match rows egd part.index is.index found unequal in
+    let h = is.wait m.0 m.1 in
+    Contains-nil h.0 (subst (λ l. Contains l h.0) (drop_all part.next part.waiting.items long) h.1)
+
+-- the first egds have no match with unequal sides
+abbrev pub NoneBelow : List (Option SeenRow) → List Egd → ℕ → Type 0
+NoneBelow rows egds n = (k : ℕ) (egd : Egd) → k < n → slice_get egds k ≡ Some egd → HasNoUnequal rows egd
+
+pub none_below_more : (rows : List (Option SeenRow)) (egds : List Egd) (parts : List Part) (n : ℕ) (part : Part) → AreParts rows egds parts
+    → slice_get parts n ≡ Some part → ((egd : Egd) → IsPartFor rows egd part → HasNoUnequal rows egd)
+    → NoneBelow rows egds n → NoneBelow rows egds (n + 1)
+none_below_more rows egds parts n part are at none below k egd l p = ⊎_elim
+    (λ (less : k < n). below k egd less p)
+    (λ (not : n ≤ k).
+    let same : k ≡ n = omega (arith, l, not) in
+    none egd (part_at rows egds parts are n egd part (ap (slice_get egds) (sym same) ∙ p) at))
+    (cases_lt k n)
+
+pub none_of_all : (rows : List (Option SeenRow)) (egds : List Egd) (parts : List Part) (n : ℕ) → AreParts rows egds parts → length parts ≤ n
+    → NoneBelow rows egds n → NoneIsUnequal rows egds
+none_of_all rows egds parts n are long below k egd m at =
+    let l = slice_get_within egds k egd at in
+    let size = zip_length (IsPartFor rows) egds parts are in
+    below k egd (omega (arith, l, size, long)) at m
 
 -- the rows with numbers below n are in the list
 abbrev pub HasRowsBelow : List (Option SeenRow) → ℕ → List ℕ → Type 0
@@ -162,67 +208,38 @@ all_rows_below rows n list long below number row at =
     let l = slice_get_within rows number (Some row) (stands (slice_get rows number) row at) in
     below number row (omega (arith, l, long)) at
 
--- rows are listed in one index after the other
+-- the parts take in rows one after the other
 module _ (rows : List (Option SeenRow)) (numbers : List ℕ) where
-  pub record AreListedBelow (old new : List Index) (n : ℕ) : Type 0 where
+  pub record HaveTakenBelow (old new : List Part) (n : ℕ) : Type 0 where
     pub size : length new ≡ length old
-    pub done : (k : ℕ) (a b : Index) → k < n → slice_get old k ≡ Some a → slice_get new k ≡ Some b → ListsMore rows numbers a b
+    pub done : (k : ℕ) (a b : Part) → k < n → slice_get old k ≡ Some a → slice_get new k ≡ Some b → HasTaken rows numbers a b
     pub later : (k : ℕ) → n ≤ k → slice_get new k ≡ slice_get old k
 
-pub grows_itself : (index : Index) → Grows index index
-grows_itself index = record { body = refl; vars = refl; kept = λ rows number h. h }
+module _ (rows : List (Option SeenRow)) (numbers : List ℕ) (first now : List Part) (n : ℕ) (before : HaveTakenBelow rows numbers first now n) where
+  -- the next part is as it was at first
+  pub can_take_at : (part : Part) → slice_get now n ≡ Some part → All (CanTake rows numbers) first → CanTake rows numbers part
+  can_take_at part at all = All-contains (CanTake rows numbers) first part all
+      (contains_from_at first n part (sym (before.later n (omega arith)) ∙ at))
 
-pub grows_twice : (a b c : Index) → Grows a b → Grows b c → Grows a c
-grows_twice a b c p q = record {
-  body = q.body ∙ p.body;
-  vars = q.vars ∙ p.vars;
-  kept = λ rows number h. q.kept rows number (p.kept rows number h);
-}
-
--- one row more is listed
-pub lists_one_more : (rows : List (Option SeenRow)) (numbers : List ℕ) (k d : ℕ) (first old new : Index) → k < length numbers
-    → Grows old new → ListsRow new rows (get_or numbers k d) → ListsMore rows (take k numbers) first old
-    → ListsMore rows (take (k + 1) numbers) first new
-lists_one_more rows numbers k d first old new l grows listed before = (
-  grows_twice first old new before.0 grows,
-  All-more (ListsRow new rows) numbers k d l
-      (All-weaker (ListsRow old rows) (ListsRow new rows) (λ n h. grows.kept rows n h) (take k numbers) before.1) listed,
-)
-
-module _ (rows : List (Option SeenRow)) (numbers : List ℕ) (first now : List Index) (n : ℕ) (before : AreListedBelow rows numbers first now n) where
-  -- one index more
-  pub one_index_listed : (index new : Index) → slice_get now n ≡ Some index → ListsMore rows numbers index new
-      → AreListedBelow rows numbers first (slice_set now n new) (n + 1)
-  one_index_listed index new at more = record {
+  -- one part more
+  pub one_part_takes : (part new : Part) → slice_get now n ≡ Some part → HasTaken rows numbers part new
+      → HaveTakenBelow rows numbers first (slice_set now n new) (n + 1)
+  one_part_takes part new at takes = record {
     size = size_set now n new ∙ before.size;
     done = λ k a b l p q. ⊎_elim
         (λ (less : k < n).
         before.done k a b less p (sym (at_set_other now n k new (λ same. omega (arith, less, same))) ∙ q))
         (λ (not : n ≤ k).
         let same : k ≡ n = omega (arith, l, not) in
-        let here : slice_get (slice_set now n new) n ≡ Some new = at_set_here now n new (slice_get_within now n index at) in
+        let here : slice_get (slice_set now n new) n ≡ Some new = at_set_here now n new (slice_get_within now n part at) in
         let one : new ≡ b = same_some (slice_get (slice_set now n new) n) new b here (ap (slice_get (slice_set now n new)) (sym same) ∙ q) in
-        let was : index ≡ a = same_some (slice_get now n) index a at (before.later n (omega arith) ∙ ap (slice_get first) (sym same) ∙ p) in
-        subst (λ (x : Index). ListsMore rows numbers x b) was (subst (ListsMore rows numbers index) one more))
+        let was : part ≡ a = same_some (slice_get now n) part a at (before.later n (omega arith) ∙ ap (slice_get first) (sym same) ∙ p) in
+        subst (λ (x : Part). HasTaken rows numbers x b) was (subst (HasTaken rows numbers part) one takes))
         (cases_lt k n);
     later = λ k l. at_set_other now n k new (λ same. omega (arith, l, same)) ∙ before.later k (omega (arith, l));
   }
 
   -- all of them
-  pub all_listed : length first ≤ n → AllZip (ListsMore rows numbers) first now
-  all_listed long = zip_from_each (ListsMore rows numbers) first now (sym before.size)
+  pub all_have_taken : length first ≤ n → AllZip (HasTaken rows numbers) first now
+  all_have_taken long = zip_from_each (HasTaken rows numbers) first now (sym before.size)
       (λ k a b p q. let l = slice_get_within first k a p in before.done k a b (omega (arith, l, long)) p q)
-
-pub none_listed : (rows : List (Option SeenRow)) (numbers : List ℕ) (first : List Index) → AreListedBelow rows numbers first first 0
-none_listed rows numbers first = record { size = refl; done = λ k a b l. absurd (omega (arith, l)); later = λ k l. refl }
-
--- a match of an egd's body has a row, so all rows wait where all are in the list
-pub all_wait : (relations : List Relation) (rows : List (Option SeenRow)) (egds : List Egd) (list : List ℕ) → All (IsEgd relations) egds
-    → ((number : ℕ) (row : SeenRow) → row_at rows number ≡ Some row → Contains list number) → AllWait rows egds list
-all_wait relations rows egds list valid has k egd found at unequal =
-    let is = All-contains (IsEgd relations) egds egd valid (contains_from_at egds k egd at) in
-    let value = seen_value found.binding in
-    let atom = at_within egd.body 0 is.body.some in
-    let first = zip_at (IsImageAt rows value) egd.body found.rows unequal.match.images 0 atom.0 atom.1 in
-    let row = some_and (IsImage value atom.0) (row_at rows first.0) first.2 in
-    (first.0, has first.0 row.0 row.1, contains_from_at found.rows 0 first.0 first.1)

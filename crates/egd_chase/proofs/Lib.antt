@@ -11,10 +11,12 @@ mod StepUnknowns
 mod MeasureLemmas
 mod TurnLemmas
 mod MatchBridge
-mod IndexLemmas
 mod WaitLemmas
+mod ShownLemmas
+mod IndexLemmas
 mod ReplaceLemmas
 mod SideLemmas
+mod SharedLemmas
 mod FitLemmas
 mod CuttingLemmas
 mod FormLemmas

@@ -405,7 +405,7 @@ module _ (old new : Store) (ok : IsStore old) (l r : TermOf ConstId) (c : Ends) 
     replaced = subst (λ facts. IsPermutation (map changed (facts_in old)) facts) all_rows (IsPermutation-refl (map changed (facts_in old)));
   }
 
--- a row of none of the numbers is as it was
+-- cells that do not hold the piece stay
 instead_none : (piece : ℕ) (by : Seen) (cells : List Seen) → ¬ (Contains cells (Piece piece)) → map (instead piece by) cells ≡ cells
 instead_none piece by [] none = refl
 instead_none piece by (v ∷ cells) none =
@@ -414,6 +414,16 @@ instead_none piece by (v ∷ cells) none =
     let rest = instead_none piece by cells (λ there. none (Contains-cons v (Piece piece) cells there)) in
     λ i. first i ∷ rest i
 
+-- a row of none of the numbers does not hold the piece
+pub not_held : (old : Store) (piece : ℕ) (numbers : List ℕ) → HasRowsOf old.rows piece numbers → (number : ℕ) (row : SeenRow)
+    → row_at old.rows number ≡ Some row → ¬ (Contains numbers number) → ¬ (Contains row.cells (Piece piece))
+not_held old piece numbers has number row e other there =
+    let column = at_from_contains row.cells (Piece piece) there in
+    let place = has.2.all number column.0 (ap (option_and_then (λ (r : SeenRow). slice_get r.cells column.0)) e ∙ column.1) in
+    let its = at_map (λ (p : Place). p.row) has.0 place.0 (record { row = number; column = column.0 }) place.1 in
+    other (subst (λ l. Contains l number) (sym has.1) (contains_from_at (map (λ (p : Place). p.row) has.0) place.0 number its))
+
+-- a row of none of the numbers is as it was
 pub others_same : (old new : Store) (piece : ℕ) (by : Seen) (numbers : List ℕ) → HasRowsOf old.rows piece numbers
     → ReplacesCells old.rows new.rows piece by → (number : ℕ) → ¬ (Contains numbers number)
     → row_at new.rows number ≡ row_at old.rows number
@@ -422,11 +432,6 @@ others_same old new piece by numbers has cells number other = by_row (row_at old
     by_row : (o : Option SeenRow) → row_at old.rows number ≡ o → row_at new.rows number ≡ row_at old.rows number
     by_row None e = cells number ∙ ap (option_map (row_instead piece by)) e ∙ sym e
     by_row (Some row) e =
-        let same = instead_none piece by row.cells (λ there.
-        let column = at_from_contains row.cells (Piece piece) there in
-        let place = has.2.all number column.0 (ap (option_and_then (λ (r : SeenRow). slice_get r.cells column.0)) e ∙ column.1) in
-        let its = at_map (λ (p : Place). p.row) has.0 place.0 (record { row = number; column = column.0 }) place.1 in
-        other (subst (λ l. Contains l number) (sym has.1)
-        (contains_from_at (map (λ (p : Place). p.row) has.0) place.0 number its))) in
+        let same = instead_none piece by row.cells (not_held old piece numbers has number row e other) in
         cells number ∙ ap (option_map (row_instead piece by)) e
         ∙ (λ i. Some (record { relation = row.relation; cells = same i; span = row.span })) ∙ sym e

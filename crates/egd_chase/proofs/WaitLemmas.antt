@@ -1,24 +1,28 @@
 -- Rows that wait and rows that are listed, as rows change.
-use Rattle.std.proofs.Common.{◌≡◌, ◌⊎◌, inl, inr, ◌↔◌, ℕ, ℤ, ◌≤◌, Option, Some, None, List, [], ◌∷◌, ◌++◌, length, map, drop, refl, sym, ap, ◌∙◌, subst, All, Contains}
-use Rattle.std.specs.Prelude.{IsSomeAnd}
+use Rattle.std.proofs.Common.{◌≡◌, ◌⊎◌, inl, inr, ◌↔◌, ℕ, ℤ, ◌≤◌, Option, Some, None, List, [], ◌∷◌, ◌++◌, length, map, drop, refl, sym, ap, ◌∙◌, subst, arith, All, Contains}
+use Rattle.std.specs.Prelude.{IsSomeAnd, slice_get}
 use Rattle.std.specs.List.{AllZip}
 use Rattle.std.specs.Ordering.{ord_max, ord_min}
 use Rattle.std.proofs.lemmas.Bool.{cases_eq}
-use Rattle.std.proofs.lemmas.List.{drop-append-le}
+use Rattle.std.proofs.lemmas.List.{drop-append-le, length-append}
 use Rattle.std.proofs.lemmas.List.Elements.{All-nil, All-cons, All-head, All-tail, All-contains, Contains-append_left, Contains-append_right}
 use Rattle.time_line.specs.Span.{Ends, Has, IsSpan, start_cmp, stop_cmp}
 use Rattle.time_line.proofs.SpanLemmas.{IsMeet-from_ends}
 use Rattle.term_core.specs.declared.term.Seen.{Seen}
 use Rattle.rule_core.specs.declared.rules.Arg.{Arg}
+use Rattle.rule_core.specs.declared.rules.Arg.TheVariants.{Var, Const}
 use Rattle.rule_core.specs.declared.rules.Atom.{Atom}
 use Rattle.rule_core.specs.declared.rules.Egd.{Egd}
-use Rattle.rule_core.proofs.ListLemmas.{Contains-nil, Contains-head, Contains-cons, Contains-cons_cases}
+use Rattle.rule_core.proofs.ListLemmas.{All-members, Contains-nil, Contains-head, Contains-cons, Contains-cons_cases}
 use Rattle.fact_table.specs.Rows.{SeenRow, row_at}
 use Rattle.body_match.specs.declared.found.Match.{Match}
 use Rattle.body_match.specs.Matches.{seen_value, IsImage, IsImageAt, HoldsAt}
 use Rattle.body_match.specs.Index.{Index, ListsRow, IsNoMore}
+use Rattle.body_match.specs.Equality.{Equality, Recurs, IsLookedAt, FitsBody, IsLike, IsShown, IsShownAt, IsShownFor, Shows, IsSameEquality}
 use Rattle.body_match.proofs.SearchLemmas.{some_and, and_some, same_some}
-use Rattle.egd_chase.specs.Search.{IsUnequalMatch, IsIndexFor, AreIndexes, ListsMore, AllWait, ChangeOnly}
+use Rattle.egd_chase.specs.declared.search.Part.{Part}
+use Rattle.egd_chase.specs.Search.{IsUnequalMatch, IsPartFor, AreParts, AllWait, ChangeOnly, CanTake, HasTaken}
+use Rattle.egd_chase.specs.Shared.{HasHeir, KeepsShared}
 
 -- a number is among others, or not
 pub is_among : (numbers : List ℕ) (n : ℕ) → Contains numbers n ⊎ ¬ (Contains numbers n)
@@ -72,6 +76,18 @@ pub change_these : (numbers : List ℕ) (old new : List (Option SeenRow))
 change_these numbers old new spans same number other =
     subst (IsNoMore (row_at old number)) (sym (same number other)) (no_more_of_itself (row_at old number) (spans number))
 
+-- where there was no row, and all that are there now are among these
+pub change_from_none : (numbers : List ℕ) (rows : List (Option SeenRow))
+    → ((number : ℕ) (row : SeenRow) → row_at rows number ≡ Some row → Contains numbers number) → ChangeOnly numbers [] rows
+change_from_none numbers rows has number other = by (row_at rows number) refl
+  where
+    by : (o : Option SeenRow) → row_at rows number ≡ o → IsNoMore None o
+    by None e = tt
+    by (Some row) e = absurd (other (has number row e))
+
+pub shared_with_none : (numbers : List ℕ) (rows : List (Option SeenRow)) → KeepsShared numbers [] rows
+shared_with_none numbers rows number other row before t apart at has there instant = absurd cc
+
 -- two changes, one after the other
 pub change_twice : (a b : List ℕ) (old mid new : List (Option SeenRow)) → ChangeOnly a old mid → ChangeOnly b mid new
     → ChangeOnly (b ++ a) old new
@@ -80,7 +96,7 @@ change_twice a b old mid new first second number other = no_more_twice (row_at o
     (second number (λ c. other (Contains-append_left b a number c)))
 
 -- all instants that rows have in common
-common_of : (rows : List (Option SeenRow)) (numbers : List ℕ)
+pub common_of : (rows : List (Option SeenRow)) (numbers : List ℕ)
     → ((n : ℕ) → Contains numbers n → (row : SeenRow) × (row_at rows n ≡ Some row))
     → (s : Ends) × ((t : ℤ) → Has s t ↔ All (HoldsAt rows t) numbers)
 common_of rows [] there = (record { lo = None; hi = None }, λ t. (λ _. All-nil (HoldsAt rows t), λ _. (tt, tt)))
@@ -189,48 +205,177 @@ match_was old new egd found is less =
       refl,
     )
 
--- when rows change, those that waited and those that changed wait
-pub waiting_after : (old new : List (Option SeenRow)) (egds : List Egd) (waiting changed : List ℕ) → AllWait old egds waiting
-    → ChangeOnly changed old new → AllWait new egds (waiting ++ changed)
-waiting_after old new egds waiting changed wait change k egd found at is = elim (meet_cases found.rows changed) [
-  | inl h ↦ (h.0, Contains-append_right waiting changed h.0 h.1, h.2)
-  | inr none ↦
-      let was = match_was old new egd found is (λ n c. change n (none n c)) in
-      let h = wait k egd was.0 at was.1 in
-      (h.0, Contains-append_left waiting changed h.0 h.1, subst (λ rows. Contains rows h.0) was.2 h.2)
-]
-
--- the same for a list of which a part is done
-pub rest_after : (old new : List (Option SeenRow)) (egds : List Egd) (waiting changed : List ℕ) (next : ℕ) → next ≤ length waiting
-    → AllWait old egds (drop next waiting) → ChangeOnly changed old new → AllWait new egds (drop next (waiting ++ changed))
-rest_after old new egds waiting changed next within wait change =
-    subst (AllWait new egds) (sym (drop-append-le next waiting changed within))
-    (waiting_after old new egds (drop next waiting) changed wait change)
-
 -- what `rows_that_lose_times_stay_listed` of body_match says
 abbrev pub StayListed : Type 0
 StayListed = (index : Index) (old new : List (Option SeenRow)) (number : ℕ) → ListsRow index old number
     → IsNoMore (row_at old number) (row_at new number) → ListsRow index new number
 
-module _ (stay : StayListed) (old new : List (Option SeenRow)) (changed : List ℕ) (change : ChangeOnly changed old new) where
-  index_after : (egd : Egd) (before after : Index) → IsIndexFor old egd before → ListsMore new changed before after
-      → IsIndexFor new egd after
-  index_after egd before after is more = record {
-    body = more.0.body ∙ is.body;
-    vars = more.0.vars ∙ is.vars;
-    lists = λ number. elim (is_among changed number) [
-      | inl c ↦ All-contains (ListsRow after new) changed number more.1 c
-      | inr other ↦ more.0.kept new number (stay before old new number (is.lists number) (change number other))
+-- what a row has is what it had, and it was there at the instant
+record Was (old : List (Option SeenRow)) (number : ℕ) (row : SeenRow) (t : ℤ) : Type 0 where
+  pub before : SeenRow
+  pub there : row_at old number ≡ Some before
+  pub relation : row.relation ≡ before.relation
+  pub cells : row.cells ≡ before.cells
+  pub instant : Has before.span t
+
+row_was : (old new : List (Option SeenRow)) (number : ℕ) (row : SeenRow) (t : ℤ) → IsNoMore (row_at old number) (row_at new number)
+    → row_at new number ≡ Some row → Has row.span t → Was old number row t
+row_was old new number row t less at has = by (row_at old number) refl (subst (IsNoMore (row_at old number)) at less)
+  where
+    by : (o : Option SeenRow) → row_at old number ≡ o → IsNoMore o (Some row) → Was old number row t
+    by None e h = absurd h
+    by (Some before) e h = record { before = before; there = e; relation = h.0; cells = h.1; instant = h.3 t has }
+
+-- two indexes for one body and the same variables look at the same, and the same rows fit them
+module _ (old new : Equality) (same : IsSameEquality old new) where
+  looked_same : (arg : Arg) → IsLookedAt new arg → IsLookedAt old arg
+  looked_same (Const c) h = tt
+  looked_same (Var v) h = elim h [
+    | inl left ↦ inl (left ∙ same.left)
+    | inr rest ↦ elim rest [
+      | inl right ↦ inr (inl (right ∙ same.right))
+      | inr recurs ↦ inr (inr (subst (λ (body : List Atom). Recurs body v) same.body recurs))
+    ]
+  ]
+
+  in_same : (atom : Atom) → Contains new.index.body atom → Contains old.index.body atom
+  in_same atom = subst (λ (body : List Atom). Contains body atom) same.body
+
+-- rows came or changed, and the part has taken them in
+module _ (old new : List (Option SeenRow)) (numbers : List ℕ) (change : ChangeOnly numbers old new) (shared : KeepsShared numbers old new)
+    (egd : Egd) (a b : Part) (is : IsPartFor old egd a) (taken : HasTaken new numbers a b) where
+  -- what the row was like, its heir is like still
+  heir_is_like : (number : ℕ) (row : SeenRow) (t : ℤ) (was : Was old number row t) (s : IsShownAt a.index old was.before t)
+      → (heir : HasHeir numbers new row t s.number s.other) → IsLike b.index row heir.later
+  heir_is_like number row t was s heir = record {
+    relation = heir.relation ∙ s.like.relation ∙ sym was.relation;
+    arity = heir.arity ∙ s.like.arity ∙ sym (ap length was.cells);
+    cells = λ atom column arg c fits q looked. heir.cells column (
+        s.like.cells atom column arg (in_same a.index b.index taken.same atom c)
+        (record { relation = sym was.relation ∙ fits.relation; arity = sym (ap length was.cells) ∙ fits.arity }) q
+        (looked_same a.index b.index taken.same arg looked)
+        ∙ ap (λ cells. slice_get cells column) (sym was.cells)
+        );
+  }
+
+  -- a row that is like another fits the body as it does
+  fits_too : (e : Equality) (row other : SeenRow) → IsLike e row other → FitsBody e row → FitsBody e other
+  fits_too e row other like fits =
+      (fits.0, fits.1, record { relation = like.relation ∙ fits.2.relation; arity = like.arity ∙ fits.2.arity })
+
+  -- like a row that is like another
+  like_twice : (e : Equality) (row mid other : SeenRow) → IsLike e row mid → IsLike e mid other → IsLike e row other
+  like_twice e row mid other p q = record {
+    relation = q.relation ∙ p.relation;
+    arity = q.arity ∙ p.arity;
+    cells = λ atom column arg c fits at looked.
+        q.cells atom column arg c (record { relation = p.relation ∙ fits.relation; arity = p.arity ∙ fits.arity }) at looked
+        ∙ p.cells atom column arg c fits at looked;
+  }
+
+  -- at each instant of a row that did not change one that is like it is shown
+  other_stands : (number : ℕ) → ¬ (Contains numbers number) → IsShownFor b.index new number
+  other_stands number other row t at fits has =
+      let was = row_was old new number row t (change number other) at has in
+      let fit : FitsBody a.index was.before = (
+        fits.0,
+        in_same a.index b.index taken.same fits.0 fits.1,
+        record { relation = sym was.relation ∙ fits.2.relation; arity = sym (ap length was.cells) ∙ fits.2.arity },
+      ) in
+      let s = is.index.shows.stand number was.before t was.there fit was.instant in
+      let heir = shared number s.number row s.other t other at has s.there s.instant in
+      let like = heir_is_like number row t was s heir in
+      elim (is_among numbers heir.heir) [
+        | inl c ↦
+            let again = taken.stand heir.heir c heir.later t heir.there (fits_too b.index row heir.later like fits) heir.instant in
+            record {
+              number = again.number;
+              other = again.other;
+              shown = again.shown;
+              there = again.there;
+              like = like_twice b.index row heir.later again.other like again.like;
+              instant = again.instant;
+            }
+        | inr none ↦ elim heir.which [
+          | inl same ↦ record {
+            number = heir.heir;
+            other = heir.later;
+            shown = (taken.others heir.heir none).1 (subst (IsShown a.index) (sym same) s.shown);
+            there = heir.there;
+            like = like;
+            instant = heir.instant;
+          }
+          | inr c ↦ absurd (none c)
+        ]
+      ]
+
+  shows_after : Shows b.index new
+  shows_after = record {
+    listed = taken.listed;
+    stand = λ number. elim (is_among numbers number) [
+      | inl c ↦ taken.stand number c
+      | inr other ↦ other_stands number other
     ];
   }
 
-  -- when rows change and are listed anew, the indexes are for the new rows
-  pub indexes_after : (egds : List Egd) (before after : List Index) → AreIndexes old egds before
-      → AllZip (ListsMore new changed) before after → AreIndexes new egds after
-  indexes_after [] [] [] are more = tt
-  indexes_after [] [] (b ∷ after) are more = absurd more
-  indexes_after [] (a ∷ before) after are more = absurd are
-  indexes_after (egd ∷ egds) [] after are more = absurd are
-  indexes_after (egd ∷ egds) (a ∷ before) [] are more = absurd more
-  indexes_after (egd ∷ egds) (a ∷ before) (b ∷ after) are more =
-      (index_after egd a b are.0 more.0, indexes_after egds before after are.1 more.1)
+  -- each match of shown rows uses one that waits
+  wait_after : AllWait new egd b.index (drop b.next b.waiting.items)
+  wait_after found m =
+      let queue : drop b.next b.waiting.items ≡ drop a.next a.waiting.items ++ taken.came =
+      (λ i. drop (taken.next i) (taken.waiting i)) ∙ drop-append-le a.next a.waiting.items taken.came is.within in
+      elim (meet_cases found.rows numbers) [
+        | inl h ↦ (
+          h.0,
+          subst (λ l. Contains l h.0) (sym queue) (Contains-append_right (drop a.next a.waiting.items) taken.came h.0
+              ((taken.shown h.0).1 (h.1, All-contains (IsShown b.index) found.rows h.0 m.shown h.2))),
+          h.2,
+        )
+        | inr none ↦
+            let was = match_was old new egd found m.unequal (λ n c. change n (none n c)) in
+            let shown : All (IsShown a.index) found.rows =
+            All-members (IsShown b.index) (IsShown a.index) found.rows (λ n c here. (taken.others n (none n c)).0 here) m.shown in
+            let h = is.wait was.0 (record { unequal = was.1; shown = subst (All (IsShown a.index)) (sym was.2) shown }) in (
+              h.0,
+              subst (λ l. Contains l h.0) (sym queue) (Contains-append_left (drop a.next a.waiting.items) taken.came h.0 h.1),
+              subst (λ rows. Contains rows h.0) was.2 h.2,
+            )
+      ]
+
+  pub part_after : IsPartFor new egd b
+  part_after = record {
+    index = record {
+      occur = is.index.occur;
+      body = taken.same.body ∙ is.index.body;
+      vars = taken.same.vars ∙ is.index.vars;
+      left = taken.same.left ∙ is.index.left;
+      right = taken.same.right ∙ is.index.right;
+      shows = shows_after;
+    };
+    wait = wait_after;
+    within =
+        let first = is.within in
+        let size = length-append a.waiting.items taken.came in
+        subst (λ n. n ≤ length b.waiting.items) (sym taken.next) (subst (λ l. a.next ≤ length l) (sym taken.waiting) (omega (arith, first, size)));
+  }
+
+module _ (old new : List (Option SeenRow)) (numbers : List ℕ) (change : ChangeOnly numbers old new) (shared : KeepsShared numbers old new) where
+  -- when rows changed and the parts have taken them in, the parts are for the rows as they are now
+  pub parts_after : (egds : List Egd) (before after : List Part) → AreParts old egds before → AllZip (HasTaken new numbers) before after
+      → AreParts new egds after
+  parts_after [] [] [] are taken = tt
+  parts_after [] [] (b ∷ after) are taken = absurd taken
+  parts_after [] (a ∷ before) after are taken = absurd are
+  parts_after (egd ∷ egds) [] after are taken = absurd are
+  parts_after (egd ∷ egds) (a ∷ before) [] are taken = absurd taken
+  parts_after (egd ∷ egds) (a ∷ before) (b ∷ after) are taken =
+      (part_after old new numbers change shared egd a b are.0 taken.0, parts_after egds before after are.1 taken.1)
+
+-- the rows that did not change are listed still
+module _ (old new : List (Option SeenRow)) (numbers : List ℕ) (change : ChangeOnly numbers old new) where
+  pub can_take : (stay : StayListed) (egds : List Egd) (parts : List Part) → AreParts old egds parts → All (CanTake new numbers) parts
+  can_take stay [] [] are = All-nil (CanTake new numbers)
+  can_take stay [] (a ∷ parts) are = absurd are
+  can_take stay (egd ∷ egds) [] are = absurd are
+  can_take stay (egd ∷ egds) (a ∷ parts) are = All-cons (CanTake new numbers) a parts
+      (λ number other shown. stay a.index.index old new number (are.0.index.shows.listed number shown) (change number other))
+      (can_take stay egds parts are.1)

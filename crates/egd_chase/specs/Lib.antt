@@ -3,6 +3,7 @@ pub mod Accepted
 pub mod Settled
 pub mod Measure
 pub mod Search
+pub mod Shared
 pub mod Sides
 pub mod Replacing
 pub mod Cutting

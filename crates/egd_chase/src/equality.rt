@@ -7,6 +7,7 @@ ghost use Rattle.term_core.specs.Order.{id_cmp};
 ghost use Rattle.failure_trace.specs.JournalRun.{Equates};
 ghost use Rattle.null_store.specs.Store.{facts_in};
 ghost use Rattle.egd_chase.specs.Search.{IsUnequalMatch, ChangeOnly, HaveSpans};
+ghost use Rattle.egd_chase.specs.Shared.{KeepsShared};
 ghost use Rattle.egd_chase.specs.Sides.{IsConstantIn, match_terms};
 
 use crate::cutting::Cutting;
@@ -38,6 +39,7 @@ pub fn equate<L: Ledger>(
         found.now.span cuts.new (facts_in store.new)) }
     ensures spans { OnOk result (HaveSpans store.new.rows) }
     ensures changes { IfOk result (λ rows. ChangeOnly rows store.old.rows store.new.rows) }
+    ensures shared { IfOk result (λ rows. KeepsShared rows store.old.rows store.new.rows) }
 {
     store.is_kept();
     let left = side_of(egd, found, egd.left);

@@ -7,6 +7,7 @@ ghost use Rattle.rule_core.specs.Terms.{TermOf};
 ghost use Rattle.fact_table.specs.Rows.{row_at};
 ghost use Rattle.egd_chase.specs.Replacing.{AreValuesOf, IsChoice};
 ghost use Rattle.egd_chase.specs.Search.{HaveSpans};
+ghost use Rattle.egd_chase.specs.Shared.{KeepsShared};
 ghost use Rattle.egd_chase.specs.Sides.{AreFitted, CanBeEqual, Replaces};
 
 use crate::sides::Side;
@@ -30,6 +31,7 @@ pub fn replace<L: Ledger>(
     ensures others { IfOk result (λ rows. (number : ℕ) → ¬ (Contains rows number)
         → row_at store.new.rows number ≡ row_at store.old.rows number) }
     ensures made { IfOk result (λ rows. All (Contains rows) made.now) }
+    ensures shared { IfOk result (λ rows. KeepsShared rows store.old.rows store.new.rows) }
     ensures spans { OnOk result (HaveSpans store.old.rows → HaveSpans store.new.rows) }
 {
     store.is_kept();

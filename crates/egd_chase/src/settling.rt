@@ -1,15 +1,15 @@
 //! Settling: matches with unequal sides are sought, and their sides made equal, until there is none.
 
-ghost use Rattle.std.specs.Prelude.{List, IfOk};
+ghost use Rattle.std.specs.Prelude.{◌<◌, List, IfOk, length};
 ghost use Rattle.rule_core.specs.Terms.{StampedOf, FactOf};
 ghost use Rattle.term_core.specs.declared.const_id.ConstId.{ConstId as ConstIdValue};
 ghost use Rattle.null_store.specs.Store.{facts_in};
 ghost use Rattle.egd_chase.specs.Settled.{IfDone, IfClash, LeadsTo, LeadsToClash, AreSettledForm, HaveNoModel};
-ghost use Rattle.egd_chase.specs.Steps.{IsUnderway, Turns};
+ghost use Rattle.egd_chase.specs.Steps.{IsUnderway, IsBatch, Comes, Turns};
 
 use crate::equality::equate;
 use crate::equating::{are_constants, step_of};
-use crate::search::{Search, rows_have_spans};
+use crate::search::{Batch, Search, Unequal, rows_have_spans};
 use body_match::laws::rows_that_lose_times_stay_listed;
 use failure_trace::JournalStep;
 use null_store::NullStore;
@@ -32,9 +32,20 @@ pub enum Settled {
 pub enum Turn {
     /// No match has unequal sides.
     Settled,
-    /// The sides of a match were made equal.
+    /// The sides of some matches were made equal.
     Equated,
     /// The sides of a match are two different constants.
+    Clashed(JournalStep),
+}
+
+/// What becomes of a match that was found.
+#[derive(Drop)]
+pub enum Outcome {
+    /// Its sides were made equal.
+    Equated,
+    /// It is no longer there with unequal sides.
+    Passed,
+    /// Its sides are two different constants.
     Clashed(JournalStep),
 }
 
@@ -63,7 +74,7 @@ pub fn settle<L: Ledger>(
     let mut store = store;
     let mut journal = Items::new(alloc);
     loop {
-        match take_turn(alloc, rules, &mut store, &mut search, &mut journal, steps)? {
+        match take_batch(alloc, rules, &mut store, &mut search, &mut journal, steps)? {
             Turn::Equated => {}
             Turn::Settled => {
                 store.is_kept();
@@ -74,8 +85,8 @@ pub fn settle<L: Ledger>(
     }
 }
 
-// Seeks a match with unequal sides, and makes them equal.
-fn take_turn<L: Ledger>(
+// Seeks some matches with unequal sides, and makes those equal, one after the other, that are unequal still.
+fn take_batch<L: Ledger>(
     alloc: Global,
     rules: &Rules,
     store: &mut NullStore,
@@ -89,20 +100,74 @@ fn take_turn<L: Ledger>(
         → IsUnderway rules.now rows store.old search.old journal.old
         → IfOk result (Turns rules.now rows store.old store.new search.new journal.new) }
 {
+    let Some(batch) = search.next(store, steps)? else {
+        return Ok(Turn::Settled);
+    };
+    take_all(alloc, rules, store, search, journal, &batch, steps)
+}
+
+// Makes the sides equal of those of a batch that are unequal still. The first of them is.
+fn take_all<L: Ledger>(
+    alloc: Global,
+    rules: &Rules,
+    store: &mut NullStore,
+    search: &mut Search,
+    journal: &mut Items<JournalStep>,
+    batch: &Batch,
+    steps: &mut Steps<L>,
+) -> Result<Turn, Memory>
+    requires way { (rows : List (StampedOf (FactOf ConstIdValue)))
+        × IsUnderway rules.now rows store.old search.old journal.old }
+    requires batch { IsBatch rules.now store.old batch.now }
+    ensures { (rows : List (StampedOf (FactOf ConstIdValue)))
+        → IsUnderway rules.now rows store.old search.old journal.old
+        → IfOk result (Turns rules.now rows store.old store.new search.new journal.new) }
+{
+    let mut good = true;
+    for found in batch.found.as_slice() {
+        let rows = found.rows.as_slice();
+        match take_one(alloc, rules, store, search, journal, batch.egd, rows, steps)? {
+            Outcome::Equated => {}
+            Outcome::Passed => good = false,
+            Outcome::Clashed(last) => return Ok(Turn::Clashed(last)),
+        }
+    }
+    search.grade(good);
+    Ok(Turn::Equated)
+}
+
+// Makes the sides of an egd equal in the match with these rows, if they are unequal still.
+fn take_one<L: Ledger>(
+    alloc: Global,
+    rules: &Rules,
+    store: &mut NullStore,
+    search: &mut Search,
+    journal: &mut Items<JournalStep>,
+    at: usize,
+    rows: &[usize],
+    steps: &mut Steps<L>,
+) -> Result<Outcome, Memory>
+    requires way { (first : List (StampedOf (FactOf ConstIdValue)))
+        × IsUnderway rules.now first store.old search.old journal.old }
+    requires egd { at < length rules.now.egds }
+    ensures { (first : List (StampedOf (FactOf ConstIdValue)))
+        → IsUnderway rules.now first store.old search.old journal.old
+        → IfOk result (Comes rules.now first store.old store.new search.new journal.new at rows.now) }
+{
     rules.is_kept();
     store.is_kept();
     rows_that_lose_times_stay_listed();
-    let egds = rules.egds().as_slice();
-    let Some(unequal) = search.next(egds, store, steps)? else {
-        return Ok(Turn::Settled);
+    let Some(found) = search.again(at, store, rows, steps)? else {
+        return Ok(Outcome::Passed);
     };
-    let egd = &egds[unequal.egd];
+    let egd = &rules.egds().as_slice()[at];
+    let unequal = Unequal { egd: at, found };
     let mut step = step_of(alloc, store, egd, &unequal)?;
     if are_constants(egd, &unequal.found) {
-        return Ok(Turn::Clashed(step));
+        return Ok(Outcome::Clashed(step));
     }
-    let rows = equate(alloc, store, egd, &unequal.found, &mut step.cuts, steps)?;
-    search.add(store, rows.as_slice(), steps)?;
+    let changed = equate(alloc, store, egd, &unequal.found, &mut step.cuts, steps)?;
+    search.add(store, changed.as_slice(), steps)?;
     journal.push(step)?;
-    Ok(Turn::Equated)
+    Ok(Outcome::Equated)
 }

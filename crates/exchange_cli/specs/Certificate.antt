@@ -1,8 +1,5 @@
 -- The certificate that is stored where some instant has no solution.
-use Rattle.std.specs.Prelude.{◌≡◌, ℕ, ℤ, List, [], ◌∷◌}
-use Rattle.rule_core.specs.Terms.{FactOf}
-use Rattle.rule_core.specs.Snapshot.{snapshot_at}
-use Rattle.rule_core.specs.Solution.{IsSolution}
+use Rattle.std.specs.Prelude.{◌≡◌, ℕ, List, [], ◌∷◌}
 use Rattle.failure_trace.specs.declared.trace.Trace.{Trace}
 use Rattle.failure_trace.specs.Printed.{trace_text}
 use Rattle.failure_trace.specs.TraceRun.{IsAccepted}
@@ -10,14 +7,10 @@ use Rattle.failure_trace.specs.TraceText.{IsTrace}
 use Rattle.exchange_cli.specs.Inputs.{Inputs, name_of, source_of}
 use Rattle.exchange_cli.specs.Files.{IsVerdict}
 use Rattle.exchange_cli.specs.Endings.{printed_of}
+use Rattle.exchange_cli.specs.Judged.{HasNoneAt}
 use Rattle.exchange_cli.specs.declared.file.FileOut.{FileOut}
 use Rattle.exchange_cli.specs.declared.ending.Finding.TheVariants.{NoSolution}
 use Rattle.exchange_cli.specs.declared.product.Product.{Product}
-
--- no instance is a solution at the instant
-abbrev pub HasNoneAt : Inputs → ℤ → Type 0
-HasNoneAt inputs t = (target : List (FactOf (List ℕ)))
-    → ¬ (IsSolution (name_of inputs) inputs.mapping.rules (snapshot_at (source_of inputs) t) target)
 
 -- the trace run accepts the trace on the mapping and the source that were read, and so its instant has no solution
 pub record Refutes (inputs : Inputs) (trace : Trace) : Type 0 where

@@ -14,7 +14,7 @@ use Rattle.failure_trace.specs.TraceRun.{IsAccepted, IsRefused as TraceIsRefused
 use Rattle.trace_checker.specs.declared.verdict.Verdict.TheVariants.{Accepted, Refused}
 use Rattle.exchange_cli.specs.Words.{Command, Exchange, Normalise, Snapshot, Check, Origin, Spells, SpellsNone}
 use Rattle.exchange_cli.specs.Inputs.{Inputs, name_of, source_of}
-use Rattle.exchange_cli.specs.Judged.{HasNone}
+use Rattle.exchange_cli.specs.Judged.{HasNoneAt}
 use Rattle.exchange_cli.specs.Files.{SolvedFiles, AreSolvedFiles, in_order}
 use Rattle.exchange_cli.specs.Product.{Makes, IsFindingOf, IsOwnStatus}
 use Rattle.exchange_cli.specs.Endings.{IsDone, IsRefused, status_of, status_found, line_of, printed_of}
@@ -210,7 +210,7 @@ pub record ChecksTrace (before after : Moment) (status : ℕ) (inputs : Inputs) 
   pub trace : Trace
   pub read : inputs.trace ≡ Some trace
   pub exactly : (status ≡ 0) ↔ IsAccepted (name_of inputs) inputs.mapping.rules (source_of inputs) trace
-  pub shows : status ≡ 0 → HasNone inputs trace
+  pub shows : status ≡ 0 → HasNoneAt inputs trace.instant
   pub accepted : status ≡ 0 → Appends before.out.content after.out.content (printed_of (Checked Accepted))
   pub refused : status ≢ 0 → (status ≡ 6) × (step : ℕ) × (why : Why)
       × TraceIsRefused (name_of inputs) inputs.mapping.rules (source_of inputs) trace step why

@@ -1,5 +1,5 @@
 -- The verdict on the trace that was read, on the mapping and the source as texts.
-use Rattle.std.specs.Prelude.{◌≡◌, ℕ, List}
+use Rattle.std.specs.Prelude.{◌≡◌, ℕ, ℤ, List}
 use Rattle.std.specs.declared.option.Option.TheVariants.{Some}
 use Rattle.rule_core.specs.Terms.{FactOf}
 use Rattle.rule_core.specs.Snapshot.{snapshot_at}
@@ -15,9 +15,9 @@ abbrev pub Judges : Inputs → Trace → Verdict → Type 0
 Judges inputs = IsVerdict (name_of inputs) inputs.mapping.rules (source_of inputs)
 
 -- no instance is a solution at the instant
-abbrev pub HasNone : Inputs → Trace → Type 0
-HasNone inputs trace = (target : List (FactOf (List ℕ)))
-    → ¬ (IsSolution (name_of inputs) inputs.mapping.rules (snapshot_at (source_of inputs) trace.instant) target)
+abbrev pub HasNoneAt : Inputs → ℤ → Type 0
+HasNoneAt inputs t = (target : List (FactOf (List ℕ)))
+    → ¬ (IsSolution (name_of inputs) inputs.mapping.rules (snapshot_at (source_of inputs) t) target)
 
 -- the trace that was read has this verdict and no other; where it is accepted, its instant has no solution
 pub record IsVerdictOf (inputs : Inputs) (verdict : Verdict) : Type 0 where
@@ -25,4 +25,4 @@ pub record IsVerdictOf (inputs : Inputs) (verdict : Verdict) : Type 0 where
   pub read : inputs.trace ≡ Some trace
   pub right : Judges inputs trace verdict
   pub one : (other : Verdict) → Judges inputs trace other → other ≡ verdict
-  pub shows : verdict ≡ Accepted → HasNone inputs trace
+  pub shows : verdict ≡ Accepted → HasNoneAt inputs trace.instant

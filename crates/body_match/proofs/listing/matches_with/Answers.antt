@@ -6,18 +6,26 @@ use Rattle.body_match.specs.declared.plan.Plan.{Plan}
 use Rattle.body_match.specs.Index.{Index}
 use Rattle.body_match.specs.Matches.{IsMatch, StandsBefore}
 use Rattle.body_match.specs.Using.{AreAllInOrder}
-use Rattle.body_match.proofs.IndexLemmas.{can_search_each, index_of, lists_of}
+use Rattle.body_match.proofs.IndexLemmas.{can_search_each, index_of, lists_each, lists_of}
 use Rattle.body_match.proofs.UsingLemmas.{each_used, used_in_order}
 use Rattle.body_match.proofs.listing.matches_with.Goals as goal
 
-pub matches_in-requires : goal.matches_in-requires
-matches_in-requires g c = λ k plan e.
+pub matches_in-requires-clause-search : goal.matches_in-requires-clause-search
+matches_in-requires-clause-search g c = λ k plan e.
     let body = c.args.body.now in
     let rows = g.F.FactSource.rows c.args.source.now in
     let plans : List Plan = c.in_ok-plans.plans.items in
     let index : Index = record { body = body; vars = c.args.vars; plans = plans } in
-    can_search_each index (index_of body c.args.vars rows plans c.requires.vars c.in_ok-plans.ensures) rows
-    (lists_of body c.args.vars rows plans (length body) c.in_ok-plans.ensures) k plan
+    can_search_each index (index_of body c.args.vars rows plans c.requires.vars c.in_ok-plans.ensures) rows k plan
+    (ap (λ (l : List Plan). slice_get l k) (sym c.as_slice.ensures.value) ∙ e)
+
+pub matches_in-requires-clause-lists : goal.matches_in-requires-clause-lists
+matches_in-requires-clause-lists g c = λ k plan e.
+    let body = c.args.body.now in
+    let rows = g.F.FactSource.rows c.args.source.now in
+    let plans : List Plan = c.in_ok-plans.plans.items in
+    let index : Index = record { body = body; vars = c.args.vars; plans = plans } in
+    lists_each index rows (lists_of body c.args.vars rows plans (length body) c.in_ok-plans.ensures) k plan
     (ap (λ (l : List Plan). slice_get l k) (sym c.as_slice.ensures.value) ∙ e)
 
 pub returns-clause-each : goal.returns-clause-each

@@ -13,7 +13,7 @@ returns-then-is_empty g c =
     let chosen = c.args.chosen.now in
     let atom = at_within task.body (length chosen) c.requires.more in
     on_ok_weaker c.find_all.result
-    (λ (all : (row : ℕ) → row < length task.rows → Contains c.find_all.new.found.items row) found number h.
+    (λ (all : (row : ℕ) → row < length task.rows → Contains c.find_all.new.found.items row) found number h d.
     let image = some_and (IsImage (seen_value found.binding) atom.0) (row_at task.rows number)
     (next_image task c.find_all.ensures.task chosen c.args.span.now c.requires.partial number atom.0 atom.1 found h) in
     all number (number_within task.rows number image.0 image.1)) c.find_all.ensures.all

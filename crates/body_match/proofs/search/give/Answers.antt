@@ -2,7 +2,7 @@ use Rattle.std.proofs.Common.{◌≡◌, ℕ, List, Some, map, sym, ap, ◌∙�
 use Rattle.std.specs.Prelude.{IsSome}
 use Rattle.term_core.specs.declared.term.Seen.{Seen}
 use Rattle.body_match.specs.declared.places.Place.{Place}
-use Rattle.body_match.specs.Search.{IsListedFrom, cell_in}
+use Rattle.body_match.specs.Search.{IsFindable, IsListedFrom, cell_in}
 use Rattle.body_match.proofs.LeafLemmas.{placed_all, made, made_is_listed, only_made}
 use Rattle.body_match.proofs.GiveLemmas.{gives_one}
 use Rattle.body_match.proofs.search.give.Goals as goal
@@ -26,7 +26,7 @@ returns-clause-gives g c =
     let values : map Some binding ≡ map (cell_in task chosen) task.places = ap (map Some) read ∙ c.in_ok-take_values.ensures
     ∙ ap (λ (l : List ℕ). map (cell_in task l) c.places-places.result.now) c.as_slice.ensures.value
     ∙ ap (map (cell_in task chosen)) c.places-places.ensures.value in
-    gives_one g.V.Visitor.takes (IsListedFrom task chosen) c.args.visitor.now c.visit.new.self c.in_ok-more.more
+    gives_one g.V.Visitor.takes (IsFindable task) (IsListedFrom task chosen) c.args.visitor.now c.visit.new.self c.in_ok-more.more
     (made task ok chosen c.args.span c.requires.partial c.requires.whole binding values)
     (made_is_listed task ok chosen c.args.span c.requires.partial c.requires.whole binding values)
     (only_made task ok chosen c.args.span c.requires.partial c.requires.whole binding values)

@@ -1,24 +1,19 @@
-use Rattle.std.proofs.Common.{◌≡◌, ℕ, ◌-◌, ◌<◌, ◌≤◌, List, Some, length, get_or, arith, refl, sym, ap, ◌∙◌, subst}
+use Rattle.std.proofs.Common.{◌≡◌, ℕ, ◌-◌, ◌<◌, List, Some, length, get_or, arith, refl, sym, ap, ◌∙◌, subst}
 use Rattle.std.specs.Prelude.{slice_get}
 use Rattle.std.proofs.lemmas.Result.{on_ok_weaker}
 use Rattle.std.proofs.lemmas.Option.{slice_get_read}
-use Rattle.rule_core.specs.declared.rules.Atom.{Atom}
 use Rattle.body_match.specs.declared.levels.Level.{Level}
-use Rattle.body_match.specs.Keys.{AreBound, IsLevel}
-use Rattle.body_match.specs.Search.{Task, IsTask}
-use Rattle.body_match.proofs.SearchLemmas.{same_some, next_atom}
+use Rattle.body_match.specs.Keys.{AreBound}
+use Rattle.body_match.specs.Search.{Task}
+use Rattle.body_match.proofs.SearchLemmas.{next_atom}
 use Rattle.body_match.proofs.KeyLemmas.{values_there, finds_next}
 use Rattle.body_match.proofs.search.look_up.Goals as goal
 
 -- the level of the next atom, as the code reads it
-level_read : (task : Task) → IsTask task → (before : ℕ) (atom : Atom) (levels : List Level) (level : Level) → levels ≡ task.levels
-    → 1 ≤ before → before < length task.body → slice_get task.body before ≡ Some atom → before - 1 < length levels
-    → level ≡ get_or levels (before - 1) level → IsLevel task.places task.rows before atom level
-level_read task ok before atom levels level read first more e within is =
-    let there = ok.levels before atom first more e in
-    let here = ap (λ (l : List Level). slice_get l (before - 1)) (sym read) ∙ slice_get_read levels (length levels) (before - 1) level refl within is in
-    let same : there.0 ≡ level = same_some (slice_get task.levels (before - 1)) there.0 level there.1 here in
-    subst (IsLevel task.places task.rows before atom) same there.2
+level_read : (task : Task) (before : ℕ) (levels : List Level) (level : Level) → levels ≡ task.levels → before - 1 < length levels
+    → level ≡ get_or levels (before - 1) level → slice_get task.levels (before - 1) ≡ Some level
+level_read task before levels level read within is =
+    ap (λ (l : List Level). slice_get l (before - 1)) (sym read) ∙ slice_get_read levels (length levels) (before - 1) level refl within is
 
 pub chosen_key-key-requires : goal.chosen_key-key-requires
 chosen_key-key-requires g c =
@@ -31,10 +26,10 @@ chosen_key-key-requires g c =
     let level : Level = c.index-levels-chosen.result in
     let within : length chosen - 1 < length levels =
     omega (arith, ok.size, ap length c.levels.ensures.value, c.requires.more, c.requires.first) in
-    let here = level_read task ok (length chosen) atom levels level c.levels.ensures.value c.requires.first c.requires.more next within
-    c.index-levels-chosen.is in
+    let here = level_read task (length chosen) levels level c.levels.ensures.value within c.index-levels-chosen.is in
+    let bound = ok.told (length chosen) atom level c.requires.first next here in
     values_there task ok chosen c.args.span.now c.requires.partial atom next c.as_slice.result.now
-    (subst (AreBound task.places (length chosen) atom) (sym c.as_slice.ensures.value) here.bound)
+    (subst (AreBound task.places (length chosen) atom) (sym c.as_slice.ensures.value) bound)
 
 pub returns : goal.returns
 returns g c =
@@ -47,10 +42,10 @@ returns g c =
     let level : Level = c.index-levels-chosen.result in
     let within : length chosen - 1 < length levels =
     omega (arith, ok.size, ap length c.levels.ensures.value, c.requires.more, c.requires.first) in
-    let here = level_read task ok (length chosen) atom levels level c.levels.ensures.value c.requires.first c.requires.more next within
-    c.index-levels-chosen.is in
+    let here = level_read task (length chosen) levels level c.levels.ensures.value within c.index-levels-chosen.is in
+    let bound = ok.told (length chosen) atom level c.requires.first next here in
     on_ok_weaker c.gather.result
     (finds_next task ok chosen c.args.span.now c.requires.partial atom next c.as_slice.result.now
-    (subst (AreBound task.places (length chosen) atom) (sym c.as_slice.ensures.value) here.bound) level c.probe_of.result
-    c.gather.new.rows.items (sym c.as_slice.ensures.value) here (c.probe_of.ensures.key ∙ c.chosen_key-key.ensures) c.probe_of.ensures.from
+    (subst (AreBound task.places (length chosen) atom) (sym c.as_slice.ensures.value) bound) level c.probe_of.result
+    c.gather.new.rows.items (sym c.as_slice.ensures.value) c.requires.first here (c.probe_of.ensures.key ∙ c.chosen_key-key.ensures) c.probe_of.ensures.from
     c.probe_of.ensures.to c.probe_of.ensures.span) c.gather.ensures

@@ -2,7 +2,7 @@ use Rattle.std.proofs.Common.{◌≡◌, ◌↔◌, ◌∷◌, [], ℕ, List, Co
 use Rattle.std.proofs.lemmas.Result.{on_ok_weaker}
 use Rattle.body_match.specs.declared.found.Match.{Match}
 use Rattle.body_match.specs.Matches.{IsImageAt, seen_value}
-use Rattle.body_match.specs.Search.{Task, IsTask, IsListedFrom, task_of}
+use Rattle.body_match.specs.Search.{Task, IsTask, IsListedFrom, ListsAll, task_of}
 use Rattle.body_match.specs.Plans.{task_in}
 use Rattle.body_match.specs.Using.{AddsBack}
 use Rattle.body_match.proofs.ListLemmas.{zip_length}
@@ -22,7 +22,14 @@ pub new-search-requires : goal.new-search-requires
 new-search-requires g c =
     let rows = g.F.FactSource.rows c.args.source.now in
     subst IsTask (λ i. task_of (sym c.as_slice-body.ensures i) (sym c.as_slice-places.ensures.value i) rows (sym c.as_slice.ensures.value i))
-    c.requires.task
+    c.requires.search.task
+
+pub all_from-requires-clause-lists : goal.all_from-requires-clause-lists
+all_from-requires-clause-lists g c =
+    let rows = g.F.FactSource.rows c.args.source.now in
+    subst ListsAll (sym c.new-search.ensures)
+    (subst ListsAll (λ i. task_of (sym c.as_slice-body.ensures i) (sym c.as_slice-places.ensures.value i) rows (sym c.as_slice.ensures.value i))
+    c.requires.lists)
 
 pub add_back-requires-clause-sizes : goal.add_back-requires-clause-sizes
 add_back-requires-clause-sizes g c = λ m there.
@@ -31,7 +38,7 @@ add_back-requires-clause-sizes g c = λ m there.
     let whole = (subst (λ (t : Task). IsListedFrom t (c.args.row ∷ []) m)
     (task_is g (goal.at.add_back-requires-clause-sizes g c).After-all_from) so).0 in
     sym (zip_length (IsImageAt rows (seen_value m.binding)) c.args.plan.now.body m.rows whole.images)
-    ∙ sym c.requires.size ∙ ap (λ (l : List ℕ). length l) (sym c.as_slice-2.ensures.value)
+    ∙ sym c.requires.search.size ∙ ap (λ (l : List ℕ). length l) (sym c.as_slice-2.ensures.value)
 
 pub returns : goal.returns
 returns g c =

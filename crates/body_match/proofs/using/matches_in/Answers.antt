@@ -4,8 +4,12 @@ use Rattle.body_match.specs.declared.plan.Plan.{Plan}
 use Rattle.body_match.proofs.UsingLemmas.{of_one_plan, of_all_plans}
 use Rattle.body_match.proofs.using.matches_in.Goals as goal
 
-pub add_from-requires : goal.add_from-requires
-add_from-requires g c = c.requires c.loop-plan.plan-index c.plan-item.result
+pub add_from-requires-clause-search : goal.add_from-requires-clause-search
+add_from-requires-clause-search g c = c.requires.search c.loop-plan.plan-index c.plan-item.result
+    (slice_get_read c.args.plans.now (length c.args.plans.now) c.loop-plan.plan-index c.plan-item.result refl c.loop-plan-test.true c.plan-item.is)
+
+pub add_from-requires-clause-lists : goal.add_from-requires-clause-lists
+add_from-requires-clause-lists g c = c.requires.lists c.loop-plan.plan-index c.plan-item.result
     (slice_get_read c.args.plans.now (length c.args.plans.now) c.loop-plan.plan-index c.plan-item.result refl c.loop-plan-test.true c.plan-item.is)
 
 pub loop-plan-preserved : goal.loop-plan-preserved

@@ -6,7 +6,8 @@ use Rattle.egd_chase.specs.Sides.{HoldsSide, IsFitted, AreFitted, CanBeEqual, ma
 use Rattle.egd_chase.proofs.MatchBridge.{unequal_sides_differ, one_is_unknown}
 use Rattle.egd_chase.proofs.TurnLemmas.{sides_change}
 use Rattle.egd_chase.proofs.CuttingLemmas.{on_one}
-use Rattle.egd_chase.proofs.EqualityLemmas.{begun, swapped, equated, changed, if_ok}
+use Rattle.egd_chase.proofs.EqualityLemmas.{begun, swapped, equated, changed, if_ok, if_ok_of_three}
+use Rattle.egd_chase.proofs.SharedLemmas.{all_keep}
 use Rattle.egd_chase.proofs.equality.equate.Goals as goal
 
 pub fit-requires : goal.fit-requires
@@ -138,3 +139,23 @@ returns-clause-changes g c =
     if_ok c.replace.result c.replace.ensures.others c.replace.ensures.made
     (λ rows others made. changed store c.fit-2.new.store c.replace.new.store c.fit-2.new.self.made.items rows both_cut.0.only both_cut.0.spans
     others (subst (All (Contains rows)) c.as_slice.ensures.value made))
+
+pub returns-clause-shared : goal.returns-clause-shared
+returns-clause-shared g c =
+    let store = c.args.store.now in
+    let egd = c.args.egd.now in
+    let found = c.args.found.now in
+    let span = found.span in
+    let l = left_of egd (match_terms store found) in
+    let r = right_of egd (match_terms store found) in
+    let first = begun l r span store c.new-cutting.result c.new-cutting.ensures.notes c.new-cutting.ensures.made
+    (subst (HoldsSide store l span) (sym c.new-cutting.ensures.own) (c.side_of-left.ensures store c.requires.matches.match))
+    (subst (HoldsSide store r span) (sym c.new-cutting.ensures.other) (c.side_of-right.ensures store c.requires.matches.match))
+    c.requires.spans in
+    let left_cut = c.in_ok-fit.ensures.cuts l r store first in
+    let second = swapped l r span store c.fit.new.store c.fit.new.self c.swap.new.self left_cut.0 c.swap.ensures.own c.swap.ensures.other
+    c.swap.ensures.notes c.swap.ensures.made in
+    let both_cut = c.in_ok-fit-2.ensures.cuts r l store second in
+    if_ok_of_three c.replace.result c.replace.ensures.others c.replace.ensures.made c.replace.ensures.shared
+    (λ rows others made shared. all_keep store c.fit-2.new.store c.replace.new.store c.fit-2.new.self.made.items rows both_cut.0.shared shared
+    both_cut.0.spans others (subst (All (Contains rows)) c.as_slice.ensures.value made))

@@ -6,6 +6,7 @@ use Rattle.null_store.specs.Changes.{CanStandFor}
 use Rattle.null_store.proofs.ListLemmas.{and_some}
 use Rattle.egd_chase.specs.Replacing.{IsChoice}
 use Rattle.egd_chase.proofs.ReplaceLemmas.{fitted_values, replaces, others_same}
+use Rattle.egd_chase.proofs.SharedLemmas.{replaced_keeps}
 use Rattle.egd_chase.proofs.SideLemmas.{spans_stay}
 use Rattle.egd_chase.proofs.replacing.replace.Given.{Over}
 use Rattle.egd_chase.proofs.replacing.replace.Goals as goal
@@ -57,6 +58,14 @@ returns-clause-made g c =
     let are = numbers g (goal.at.returns-clause-made g c).After-from_vec in
     All-weaker (Contains made) (Contains c.from_vec.result)
     (λ n there. subst (λ (l : List ℕ). Contains l n) (sym are) (Contains-append_right rows made n there)) made (All-contains_itself made)
+
+pub returns-clause-shared : goal.returns-clause-shared
+returns-clause-shared g c =
+    let rows = c.in_ok-occurrence_rows.field-0 in
+    let are = numbers g (goal.at.returns-clause-shared g c).After-from_vec in
+    replaced_keeps c.args.store.now c.substitute.new.self c.choice_of-choice.result.piece c.choice_of-choice.result.by rows
+    c.in_ok-occurrence_rows.ensures.rows c.substitute.ensures.substitutes.cells c.from_vec.result
+    (λ n there. subst (λ (l : List ℕ). Contains l n) (sym are) (Contains-append_left rows c.args.made.now n there))
 
 pub returns-clause-spans : goal.returns-clause-spans
 returns-clause-spans g c = spans_stay c.args.store.now.rows c.substitute.new.self.rows c.choice_of-choice.result.piece c.choice_of-choice.result.by

@@ -6,13 +6,18 @@ use Rattle.body_match.specs.declared.plan.Plan.{Plan}
 use Rattle.body_match.specs.Index.{Index}
 use Rattle.body_match.specs.Matches.{IsMatch, StandsBefore}
 use Rattle.body_match.specs.Using.{AreAllInOrder}
-use Rattle.body_match.proofs.IndexLemmas.{can_search_each}
+use Rattle.body_match.proofs.IndexLemmas.{can_search_each, lists_each}
 use Rattle.body_match.proofs.UsingLemmas.{each_used, used_in_order}
 use Rattle.body_match.proofs.index.BodyIndex.matches_using.Goals as goal
 
-pub matches_in-requires : goal.matches_in-requires
-matches_in-requires g c = λ k plan e.
-    can_search_each c.args.self.now c.plans.ensures.index (g.F.FactSource.rows c.args.source.now) c.requires.lists k plan
+pub matches_in-requires-clause-search : goal.matches_in-requires-clause-search
+matches_in-requires-clause-search g c = λ k plan e.
+    can_search_each c.args.self.now c.plans.ensures.index (g.F.FactSource.rows c.args.source.now) k plan
+    (ap (λ (l : List Plan). slice_get l k) (sym c.plans.ensures.value) ∙ e)
+
+pub matches_in-requires-clause-lists : goal.matches_in-requires-clause-lists
+matches_in-requires-clause-lists g c = λ k plan e.
+    lists_each c.args.self.now (g.F.FactSource.rows c.args.source.now) c.requires.lists k plan
     (ap (λ (l : List Plan). slice_get l k) (sym c.plans.ensures.value) ∙ e)
 
 pub returns-clause-each : goal.returns-clause-each

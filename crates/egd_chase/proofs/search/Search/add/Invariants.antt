@@ -1,11 +1,10 @@
--- The rows are listed in the indexes so far.
+-- The parts so far have taken the rows in.
 use Rattle.std.proofs.Common.{◌≡◌}
-use Rattle.egd_chase.proofs.IndexLemmas.{AreListedBelow}
+use Rattle.egd_chase.proofs.IndexLemmas.{HaveTakenBelow}
 use Rattle.egd_chase.proofs.search.Search.add.Given as goal
 
 abbrev pub invariant-loop-at : goal.invariant-loop-at
 invariant-loop-at g l = record {
-  listed : AreListedBelow l.store.rows l.rows l.initial.self.indexes.items l.self.indexes.items l.at;
-  waiting : l.self.waiting ≡ l.initial.self.waiting;
-  next : l.self.next ≡ l.initial.self.next;
+  taken : HaveTakenBelow l.store.rows l.rows l.initial.self.parts.items l.self.parts.items l.at;
+  limit : l.self.limit ≡ l.initial.self.limit;
 }
