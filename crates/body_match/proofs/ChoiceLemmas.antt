@@ -1,12 +1,13 @@
 -- Which rows are shown, and for which others they stand.
-use Rattle.std.proofs.Common.{◌≡◌, ◌⊎◌, ◌↔◌, inl, inr, ℕ, ℤ, negsuc, ◌≤ℤ◌, ◌+◌, ◌-◌, ◌<◌, ◌≤◌, Option, Some, None, Bool, List, [], length, get_or, refl, sym, ap, ◌∙◌, subst, ⊎_elim, arith, Contains}
+use Rattle.std.proofs.Common.{◌≡◌, ◌⊎◌, ◌↔◌, inl, inr, ℕ, ℤ, negsuc, ◌≤ℤ◌, ◌+◌, ◌-◌, ◌<◌, ◌≤◌, Option, Some, None, Bool, true, false, List, [], ◌∷◌, ◌++◌, length, get_or, refl, sym, ap, ◌∙◌, subst, ⊎_elim, arith, Contains}
 use Rattle.std.specs.Prelude.{slice_get}
+use Rattle.std.specs.Bool.{IsTrue}
 use Rattle.std.specs.Option.{option_map}
-use Rattle.std.proofs.lemmas.Bool.{cases_lt}
+use Rattle.std.proofs.lemmas.Bool.{cases_eq, cases_lt}
 use Rattle.std.proofs.lemmas.Int.{ints}
-use Rattle.std.proofs.lemmas.List.Elements.{All-contains}
+use Rattle.std.proofs.lemmas.List.Elements.{All-contains, Contains-append_cases, Contains-append_left, Contains-append_right}
 use Rattle.std.proofs.lemmas.Option.{slice_get-get_or}
-use Rattle.rule_core.proofs.ListLemmas.{Contains-nil}
+use Rattle.rule_core.proofs.ListLemmas.{Contains-nil, Contains-head, Contains-cons_cases}
 use Rattle.time_line.specs.Span.{Ends, Has, IsWithinLimit}
 use Rattle.rule_core.specs.declared.rules.Arg.{Arg}
 use Rattle.rule_core.specs.declared.rules.Arg.TheVariants as args
@@ -19,9 +20,9 @@ use Rattle.body_match.specs.Keys.{IsEntryOf, IsListedUnder, stop_number}
 use Rattle.body_match.specs.Index.{Index, ListsRow}
 use Rattle.body_match.specs.Plans.{IsSamePlan, AreSamePlans}
 use Rattle.body_match.specs.Equality.{Equality, IsLookedAt, IsShownFor}
-use Rattle.body_match.specs.Choice.{AreAlikeUnder, AreChosen, AreHidden, AreLooked, IsHidden, IsLooked, IsOn, IsStoodFor, MayMark}
+use Rattle.body_match.specs.Choice.{AreAlikeUnder, AreChosen, AreEnough, AreHidden, AreLooked, FitsSome, IsAlike, IsHidden, IsLooked, IsOn, IsOtherAt, IsStoodFor, MayMark, StandStill, StandsForLess}
 use Rattle.body_match.specs.Renewals.{IsLive, LevelsKeepBut, PlansKeepBut, AreListedInEach}
-use Rattle.body_match.proofs.ListLemmas.{at_within, within_from_at, contains_from_at, at_from_contains}
+use Rattle.body_match.proofs.ListLemmas.{is_among, at_within, within_from_at, contains_from_at, at_from_contains}
 use Rattle.body_match.proofs.SearchLemmas.{and_some, same_some, row_from_head, cell_from_row}
 
 -- a row has as many cells as its head says
@@ -33,12 +34,34 @@ has_cells source number head e column l =
     (subst (λ n. column < n) (sym (ap (λ (h : RowHead). h.arity) r.2)) l)
 
 module _ (body : List Atom) (looked : List Bool) (source : List (Option SeenRow)) where
-  -- what stands for a row does so when more are marked
-  pub stood_still : (old new : List Bool) (number : ℕ) → ((n : ℕ) → IsOn old n → IsOn new n)
+  -- a row that is like another fits the body as it does, and is like what that one is like
+  alike_fits : (row other : SeenRow) → IsAlike body looked row other → FitsSome body row → FitsSome body other
+  alike_fits row other like fits =
+      (fits.0, fits.1, record { relation = like.relation ∙ fits.2.relation; arity = like.arity ∙ fits.2.arity })
+
+  alike_twice : (row mid other : SeenRow) → IsAlike body looked row mid → IsAlike body looked mid other → IsAlike body looked row other
+  alike_twice row mid other p q = record {
+    relation = q.relation ∙ p.relation;
+    arity = q.arity ∙ p.arity;
+    cells = λ atom column arg c fits at l.
+        q.cells atom column arg c (record { relation = p.relation ∙ fits.relation; arity = p.arity ∙ fits.arity }) at l
+        ∙ p.cells atom column arg c fits at l;
+  }
+
+  -- what stands for a row does so when others stand for what was marked
+  pub stood_still : (old new : List Bool) (number : ℕ) → StandStill body looked source old new
       → IsStoodFor body looked source old number → IsStoodFor body looked source new number
-  stood_still old new number kept h row t e fits has =
+  stood_still old new number still h row t e fits has =
       let s = h row t e fits has in
-      record { number = s.number; other = s.other; on = kept s.number s.on; there = s.there; like = s.like; instant = s.instant }
+      let again = still s.number s.on s.other t s.there (alike_fits row s.other s.like fits) s.instant in
+      record {
+        number = again.number;
+        other = again.other;
+        on = again.on;
+        there = again.there;
+        like = alike_twice row s.other again.other s.like again.like;
+        instant = again.instant;
+      }
 
   -- a row that is marked stands for itself
   pub stands_itself : (marks : List Bool) (number : ℕ) → IsOn marks number → IsStoodFor body looked source marks number
@@ -51,34 +74,58 @@ module _ (body : List Atom) (looked : List Bool) (source : List (Option SeenRow)
     instant = has;
   }
 
-  -- and for one that is like it and has no other time
-  pub stands_for_other : (marks : List Bool) (other row : ℕ) (found head : RowHead) → head_at source other ≡ Some found
+  -- and another row does where it is like it
+  pub other_is_at : (marks : List Bool) (other row : ℕ) (found head : RowHead) → head_at source other ≡ Some found
       → head_at source row ≡ Some head → found.relation ≡ head.relation → found.arity ≡ head.arity
-      → ((t : ℤ) → Has head.span t → Has found.span t)
       → ((atom : Atom) → Contains body atom → head.relation ≡ atom.relation → head.arity ≡ length atom.args
       → AreAlikeUnder looked source row other atom)
-      → IsOn marks other → IsStoodFor body looked source marks row
-  stands_for_other marks other row found head p q relation arity covers alike on seen t e fits has =
+      → IsOn marks other → ¬ (other ≡ row) → (seen : SeenRow) (t : ℤ) → row_at source row ≡ Some seen → Has found.span t
+      → IsOtherAt body looked source marks row seen t
+  other_is_at marks other row found head p q relation arity alike on apart seen t e has =
       let o = row_from_head source other found p in
       let r = row_from_head source row head q in
       let h : head_of seen ≡ head =
       ap head_of (same_some (row_at source row) seen r.0 e r.1) ∙ r.2 in
       record {
-        number = other;
-        other = o.0;
-        on = on;
-        there = o.1;
-        like = record {
-          relation = ap (λ (x : RowHead). x.relation) o.2 ∙ relation ∙ sym (ap (λ (x : RowHead). x.relation) h);
-          arity = ap (λ (x : RowHead). x.arity) o.2 ∙ arity ∙ sym (ap (λ (x : RowHead). x.arity) h);
-          cells = λ atom column arg c fit a l.
-              sym (cell_from_row source other column o.0 o.1)
-              ∙ alike atom c (sym (ap (λ (x : RowHead). x.relation) h) ∙ fit.relation)
-              (sym (ap (λ (x : RowHead). x.arity) h) ∙ fit.arity) column arg a l
-              ∙ cell_from_row source row column seen e;
+        at = record {
+          number = other;
+          other = o.0;
+          on = on;
+          there = o.1;
+          like = record {
+            relation = ap (λ (x : RowHead). x.relation) o.2 ∙ relation ∙ sym (ap (λ (x : RowHead). x.relation) h);
+            arity = ap (λ (x : RowHead). x.arity) o.2 ∙ arity ∙ sym (ap (λ (x : RowHead). x.arity) h);
+            cells = λ atom column arg c fit a l.
+                sym (cell_from_row source other column o.0 o.1)
+                ∙ alike atom c (sym (ap (λ (x : RowHead). x.relation) h) ∙ fit.relation)
+                (sym (ap (λ (x : RowHead). x.arity) h) ∙ fit.arity) column arg a l
+                ∙ cell_from_row source row column seen e;
+          };
+          instant = subst (λ (s : Ends). Has s t) (sym (ap (λ (x : RowHead). x.span) o.2)) has;
         };
-        instant = subst (λ (s : Ends). Has s t) (sym (ap (λ (x : RowHead). x.span) o.2))
-            (covers t (subst (λ (s : Ends). Has s t) (ap (λ (x : RowHead). x.span) h) has));
+        apart = apart;
+      }
+
+  -- a row has the span of its head
+  pub has_in_head : (number : ℕ) (head : RowHead) (seen : SeenRow) (t : ℤ) → head_at source number ≡ Some head
+      → row_at source number ≡ Some seen → Has seen.span t → Has head.span t
+  has_in_head number head seen t p e has =
+      let r = row_from_head source number head p in
+      let h : head_of seen ≡ head = ap head_of (same_some (row_at source number) seen r.0 e r.1) ∙ r.2 in
+      subst (λ (s : Ends). Has s t) (ap (λ (x : RowHead). x.span) h) has
+
+  -- others are enough for a row as long as they are marked
+  pub enough_after : (old new : List Bool) (number : ℕ) → ((n : ℕ) → ¬ (n ≡ number) → IsOn old n → IsOn new n)
+      → AreEnough body looked source old number → IsStoodFor body looked source new number
+  enough_after old new number kept enough row t e fits has =
+      let o = enough row t e has in
+      record {
+        number = o.at.number;
+        other = o.at.other;
+        on = kept o.at.number o.apart o.at.on;
+        there = o.at.there;
+        like = o.at.like;
+        instant = o.at.instant;
       }
 
   -- no row need stand for one that is not there, or fits no atom
@@ -99,53 +146,69 @@ module _ (body : List Atom) (looked : List Bool) (source : List (Option SeenRow)
         sym (ap (λ (x : RowHead). x.arity) h) ∙ fits.2.arity,
       ))
 
+  -- fewer and fewer are marked
+  pub less_none : (marks : List Bool) → StandsForLess body looked source marks marks
+  less_none marks = record { size = refl; less = λ n on. on; stand = λ n on. stands_itself marks n on }
+
+  pub less_twice : (old mid new : List Bool) → StandsForLess body looked source old mid → StandsForLess body looked source mid new
+      → StandsForLess body looked source old new
+  less_twice old mid new p q = record {
+    size = q.size ∙ p.size;
+    less = λ n on. p.less n (q.less n on);
+    stand = λ n on. stood_still mid new n q.stand (p.stand n on);
+  }
+
+  pub less_one : (row : ℕ) (old new : List Bool) (list longer : List ℕ) → IsHidden row old new list longer
+      → AreEnough body looked source old row → StandsForLess body looked source old new
+  less_one row old new list longer h enough = record {
+    size = h.size;
+    less = h.less;
+    stand = λ n on. ⊎_elim
+        (λ (same : n ≡ row). subst (IsStoodFor body looked source new) (sym same) (enough_after old new row h.others enough))
+        (λ (differ : ¬ (n ≡ row)). stands_itself new n (h.others n differ on))
+        (cases_eq n row);
+  }
+
+  -- no row or one is marked too, and then others no more
+  pub none_marked : (row : ℕ) (marks : List Bool) → MayMark body looked source row marks marks
+  none_marked row marks = record { size = refl; on = λ n on. inl on; stand = λ n on. stands_itself marks n on }
+
+  pub one_marked : (row : ℕ) (old mid new : List Bool) → length mid ≡ length old → ((n : ℕ) → IsOn old n → IsOn mid n)
+      → ((n : ℕ) → IsOn mid n → IsOn old n ⊎ (n ≡ row)) → StandsForLess body looked source mid new
+      → MayMark body looked source row old new
+  one_marked row old mid new size kept on h = record {
+    size = h.size ∙ size;
+    on = λ n o. on n (h.less n o);
+    stand = λ n o. h.stand n (kept n o);
+  }
+
   -- rows chosen so far
-  pub none_chosen : (rows : List ℕ) (marks : List Bool) → AreChosen body looked source rows marks marks [] 0
+  pub none_chosen : (rows : List ℕ) (marks : List Bool) → AreChosen body looked source rows marks marks 0
   none_chosen rows marks = record {
     size = refl;
-    kept = λ n on. on;
     on = λ n on. inl on;
-    added = λ n c. absurd (Contains-nil n c);
+    still = λ n on. stands_itself marks n on;
     stand = λ k n l. absurd (omega (arith, l));
   }
 
-  pub one_chosen : (rows : List ℕ) (first now new : List Bool) (list longer : List ℕ) (at row : ℕ) → slice_get rows at ≡ Some row
-      → MayMark row now new list longer → IsStoodFor body looked source new row
-      → AreChosen body looked source rows first now list at → AreChosen body looked source rows first new longer (at + 1)
-  one_chosen rows first now new list longer at row here marks stood h = record {
+  pub one_chosen : (rows : List ℕ) (first now new : List Bool) (at row : ℕ) → slice_get rows at ≡ Some row
+      → MayMark body looked source row now new → IsStoodFor body looked source new row
+      → AreChosen body looked source rows first now at → AreChosen body looked source rows first new (at + 1)
+  one_chosen rows first now new at row here marks stood h = record {
     size = marks.size ∙ h.size;
-    kept = λ n on. marks.kept n (h.kept n on);
     on = λ n on. ⊎_elim
-        (λ (before : IsOn now n). ⊎_elim
-        (λ (old : IsOn first n). inl old)
-        (λ (listed : Contains list n). inr (marks.grown n listed))
-        (h.on n before))
-        (λ (listed : Contains longer n). inr listed)
+        (λ (before : IsOn now n). h.on n before)
+        (λ (this : n ≡ row). inr (contains_from_at rows at n (here ∙ ap (λ x. Some x) (sym this))))
         (marks.on n on);
-    added = λ n c. ⊎_elim
-        (λ (old : Contains list n). let a = h.added n old in (a.0, marks.kept n a.1))
-        (λ (this : (n ≡ row) × IsOn new row). (
-          contains_from_at rows at n (here ∙ ap (λ x. Some x) (sym this.0)),
-          subst (IsOn new) (sym this.0) this.1,
-        ))
-        (marks.added n c);
+    still = λ n on. stood_still now new n marks.stand (h.still n on);
     stand = λ k n l e. ⊎_elim
-        (λ (less : k < at). stood_still now new n marks.kept (h.stand k n less e))
+        (λ (less : k < at). stood_still now new n marks.stand (h.stand k n less e))
         (λ (not : at ≤ k).
         let same : k ≡ at = omega (arith, l, not) in
         let is : row ≡ n = same_some (slice_get rows at) row n here (ap (slice_get rows) (sym same) ∙ e) in
         subst (IsStoodFor body looked source new) is stood)
         (cases_lt k at);
   }
-
-pub same_marks : (row : ℕ) (marks : List Bool) (list : List ℕ) → MayMark row marks marks list list
-same_marks row marks list = record {
-  size = refl;
-  kept = λ n on. on;
-  on = λ n on. inl on;
-  grown = λ n c. c;
-  added = λ n c. inl c;
-}
 
 -- what is not looked at need not be the same
 module _ (e : Equality) (looked : List Bool) (ok : AreLooked e.index.body e.left e.right looked) where
@@ -259,51 +322,119 @@ all_hidden rows first now list done whole h = record {
   were = h.were;
 }
 
+-- the part of a list that is marked
+abbrev pub AreShownSoFar : List Bool → List ℕ → List ℕ → ℕ → Type 0
+AreShownSoFar marks rows list first = (number : ℕ) → Contains list number
+    ↔ ((k : ℕ) × (k < first) × (slice_get rows k ≡ Some number) × IsOn marks number)
+
+pub none_picked : (marks : List Bool) (rows : List ℕ) → AreShownSoFar marks rows [] 0
+none_picked marks rows number = (λ c. absurd (Contains-nil number c), λ h. absurd (omega (arith, h.1)))
+
+module _ (marks : List Bool) (rows list : List ℕ) (at row : ℕ) (here : slice_get rows at ≡ Some row) (so : AreShownSoFar marks rows list at) where
+  before_this : (number k : ℕ) → k < at + 1 → slice_get rows k ≡ Some number → (k < at) ⊎ (number ≡ row)
+  before_this number k l e = ⊎_elim
+      (λ (less : k < at). inl less)
+      (λ (not : at ≤ k).
+      let same : k ≡ at = omega (arith, l, not) in
+      inr (same_some (slice_get rows at) number row (ap (slice_get rows) (sym same) ∙ e) here))
+      (cases_lt k at)
+
+  pub one_picked : IsOn marks row → AreShownSoFar marks rows (list ++ row ∷ []) (at + 1)
+  one_picked on number = (
+    λ c. elim (Contains-append_cases list (row ∷ []) number c) [
+      | inl d ↦ let h = (so number).0 d in (h.0, omega (arith, h.1), h.2, h.3)
+      | inr d ↦ elim (Contains-cons_cases row number [] d) [
+        | inl same ↦ (at, omega arith, here ∙ ap (λ x. Some x) same, subst (IsOn marks) same on)
+        | inr e ↦ absurd (Contains-nil number e)
+      ]
+    ],
+    λ h. ⊎_elim
+        (λ (less : h.0 < at). Contains-append_left list (row ∷ []) number ((so number).1 (h.0, less, h.2, h.3)))
+        (λ (same : number ≡ row). Contains-append_right list (row ∷ []) number (subst (Contains (row ∷ [])) (sym same) (Contains-head row [])))
+        (before_this number h.0 h.1 h.2),
+  )
+
+  pub one_passed : ¬ (IsOn marks row) → AreShownSoFar marks rows list (at + 1)
+  one_passed off number = (
+    λ c. let h = (so number).0 c in (h.0, omega (arith, h.1), h.2, h.3),
+    λ h. ⊎_elim
+        (λ (less : h.0 < at). (so number).1 (h.0, less, h.2, h.3))
+        (λ (same : number ≡ row). absurd (off (subst (IsOn marks) same h.3)))
+        (before_this number h.0 h.1 h.2),
+  )
+
+pub all_picked : (marks : List Bool) (rows list : List ℕ) (done : ℕ) → length rows ≤ done → AreShownSoFar marks rows list done
+    → (number : ℕ) → Contains list number ↔ (Contains rows number × IsOn marks number)
+all_picked marks rows list done whole so number = (
+  λ c. let h = (so number).0 c in (contains_from_at rows h.0 number h.2, h.3),
+  λ h.
+      let k = at_from_contains rows number h.0 in
+      let within = within_from_at rows k.0 number k.1 in
+      (so number).1 (k.0, omega (arith, within, whole), k.1, h.1),
+)
+
+-- what would make a test true, where it is false
+pub not_so : {P : Type 0} (b : Bool) → (P → IsTrue b) → b ≡ false → ¬ P
+not_so b then off p = let both : true ≡ false = sym (then p) ∙ off in absurd cc
+
+-- what is added is not marked
+pub one_not_marked : (marks : List Bool) (first list : List ℕ) (row : ℕ) → ¬ (IsOn marks row)
+    → ((number : ℕ) → Contains list number → Contains first number ⊎ ¬ (IsOn marks number))
+    → (number : ℕ) → Contains (list ++ row ∷ []) number → Contains first number ⊎ ¬ (IsOn marks number)
+one_not_marked marks first list row off so number c = elim (Contains-append_cases list (row ∷ []) number c) [
+  | inl d ↦ so number d
+  | inr d ↦ elim (Contains-cons_cases row number [] d) [
+    | inl same ↦ inr (subst (λ n. ¬ (IsOn marks n)) same off)
+    | inr e ↦ absurd (Contains-nil number e)
+  ]
+]
+
 -- rows taken in: all of them are hidden, then some chosen
 
 module _ (rows gone fresh : List ℕ) (old hidden grown new : List Bool) (off : AreHidden rows old hidden gone)
     (room : (number : ℕ) → IsOn grown number ↔ IsOn hidden number) (body : List Atom) (looked : List Bool)
-    (source : List (Option SeenRow)) (chosen : AreChosen body looked source rows grown new fresh (length rows)) where
-  -- which are shown then
-  pub taken_shown : (number : ℕ) → Contains fresh number ↔ (Contains rows number × IsOn new number)
-  taken_shown number = (
-    chosen.added number,
-    λ h. ⊎_elim
-        (λ (before : IsOn grown number). absurd (off.off number h.0 ((room number).0 before)))
-        (λ (c : Contains fresh number). c)
-        (chosen.on number h.1),
-  )
-
-  -- a row that is shown was, and is none of them, or is a fresh one
-  pub taken_from : (number : ℕ) → IsOn new number → (¬ (Contains rows number) × IsOn old number) ⊎ Contains fresh number
+    (source : List (Option SeenRow)) (chosen : AreChosen body looked source rows grown new (length rows)) where
+  -- a row that is shown was, and is none of them, or is one of them
+  pub taken_from : (number : ℕ) → IsOn new number → (¬ (Contains rows number) × IsOn old number) ⊎ Contains rows number
   taken_from number on = ⊎_elim
       (λ (before : IsOn grown number).
       let still = (room number).0 before in
       let not : ¬ (Contains rows number) = λ c. off.off number c still in
       inl (not, (off.others number not).0 still))
-      (λ (c : Contains fresh number). inr c)
+      (λ (c : Contains rows number). inr c)
       (chosen.on number on)
 
-  pub taken_others : (number : ℕ) → ¬ (Contains rows number) → IsOn new number ↔ IsOn old number
-  taken_others number not = (
-    λ on. ⊎_elim
-        (λ (h : ¬ (Contains rows number) × IsOn old number). h.1)
-        (λ (c : Contains fresh number). absurd (not (chosen.added number c).0))
-        (taken_from number on),
-    λ on. chosen.kept number ((room number).1 ((off.others number not).1 on)),
-  )
+  pub taken_others : (number : ℕ) → IsOn new number → IsOn old number ⊎ Contains rows number
+  taken_others number on = ⊎_elim
+      (λ (h : ¬ (Contains rows number) × IsOn old number). inl h.1)
+      (λ (c : Contains rows number). inr c)
+      (taken_from number on)
 
-  pub taken_listed : (before after : Index) → AreSamePlans before.plans after.plans → PlansKeepBut gone before.plans after.plans
+  pub taken_listed : (dropped : List ℕ) → ((number : ℕ) → Contains dropped number → Contains gone number ⊎ ¬ (IsOn new number))
+      → ((number : ℕ) → Contains fresh number ↔ (Contains rows number × IsOn new number))
+      → (before after : Index) → AreSamePlans before.plans after.plans → PlansKeepBut dropped before.plans after.plans
       → AreListedInEach after.plans source fresh
       → ((number : ℕ) → ¬ (Contains rows number) → IsOn old number → ListsRow before source number)
       → (number : ℕ) → IsOn new number → ListsRow after source number
-  taken_listed before after same kept listed lists number on = ⊎_elim
+  taken_listed dropped drops picked before after same kept listed lists number on = ⊎_elim
       (λ (h : ¬ (Contains rows number) × IsOn old number).
-      lists_still before after same gone kept source number (λ c. h.0 (off.were number c)) (lists number h.0 h.1))
-      (λ (c : Contains fresh number). lists_fresh after source fresh listed number c)
+      lists_still before after same dropped kept source number
+      (λ c. ⊎_elim
+      (λ (d : Contains gone number). h.0 (off.were number d))
+      (λ (out : ¬ (IsOn new number)). out on)
+      (drops number c))
+      (lists number h.0 h.1))
+      (λ (c : Contains rows number). lists_fresh after source fresh listed number ((picked number).1 (c, on)))
       (taken_from number on)
 
-  pub taken_stand : (number : ℕ) → Contains rows number → IsStoodFor body looked source new number
-  taken_stand number c =
+  stand_of_rows : (number : ℕ) → Contains rows number → IsStoodFor body looked source new number
+  stand_of_rows number c =
       let k = at_from_contains rows number c in
       chosen.stand k.0 number (within_from_at rows k.0 number k.1) k.1
+
+  pub taken_stand : (number : ℕ) → Contains rows number ⊎ IsOn old number → IsStoodFor body looked source new number
+  taken_stand number (inl c) = stand_of_rows number c
+  taken_stand number (inr on) = ⊎_elim
+      (λ (c : Contains rows number). stand_of_rows number c)
+      (λ (not : ¬ (Contains rows number)). chosen.still number ((room number).1 ((off.others number not).1 on)))
+      (is_among rows number)

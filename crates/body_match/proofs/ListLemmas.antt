@@ -1,6 +1,8 @@
 -- Lists by what stands at a place, and lists side by side.
 use Rattle.std.proofs.Common.{◌≡◌, ◌⊎◌, inl, inr, ℕ, zero, suc, ◌<◌, Some, List, [], ◌∷◌, ◌++◌, length, get_or, map, refl, sym, ap, ◌∙◌, subst, arith, Contains}
 use Rattle.std.specs.Prelude.{slice_get, slice_set}
+use Rattle.std.proofs.lemmas.Bool.{cases_eq}
+use Rattle.rule_core.proofs.ListLemmas.{Contains-nil, Contains-head, Contains-cons, Contains-cons_cases}
 use Rattle.std.specs.List.{AllZip}
 
 -- what stands within a list
@@ -126,3 +128,17 @@ pub size_set : {X : Type 0} (xs : List X) (k : ℕ) (x : X) → length (slice_se
 size_set [] k x = refl
 size_set (y ∷ ys) zero x = refl
 size_set (y ∷ ys) (suc k) x = ap suc (size_set ys k x)
+
+-- a number is among others, or not
+pub is_among : (numbers : List ℕ) (n : ℕ) → Contains numbers n ⊎ ¬ (Contains numbers n)
+is_among [] n = inr (Contains-nil n)
+is_among (m ∷ numbers) n = elim (cases_eq m n) [
+  | inl same ↦ inl (subst (Contains (m ∷ numbers)) same (Contains-head m numbers))
+  | inr differ ↦ elim (is_among numbers n) [
+    | inl c ↦ inl (Contains-cons m n numbers c)
+    | inr none ↦ inr (λ c. elim (Contains-cons_cases m n numbers c) [
+      | inl same ↦ differ same
+      | inr d ↦ none d
+    ])
+  ]
+]

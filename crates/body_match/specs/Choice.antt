@@ -1,7 +1,7 @@
 -- Which rows are shown, and for which others they stand. No public clause cites this module.
-use Rattle.std.specs.Prelude.{◌≡◌, ◌⊎◌, ◌↔◌, ◌<◌, ℕ, ℤ, List, Option, Some, Bool, true, false, Contains, length, slice_get}
+use Rattle.std.specs.Prelude.{◌≡◌, ◌⊎◌, ◌↔◌, ◌<◌, ℕ, ℤ, List, Option, Some, Bool, true, false, IsSomeAnd, Contains, length, slice_get}
 use Rattle.std.specs.Bool.{⊤}
-use Rattle.time_line.specs.Span.{Has}
+use Rattle.time_line.specs.Span.{Ends, Has}
 use Rattle.rule_core.specs.declared.rules.Arg.{Arg}
 use Rattle.rule_core.specs.declared.rules.Arg.TheVariants as args
 use Rattle.rule_core.specs.declared.rules.Atom.{Atom}
@@ -56,6 +56,20 @@ abbrev pub IsStoodFor : List Atom → List Bool → List (Option SeenRow) → Li
 IsStoodFor body looked source marks number = (row : SeenRow) (t : ℤ) → row_at source number ≡ Some row → FitsSome body row
     → Has row.span t → IsOnAt body looked source marks row t
 
+-- such a row is marked that has another number
+pub record IsOtherAt (body : List Atom) (looked : List Bool) (source : List (Option SeenRow)) (marks : List Bool) (number : ℕ) (row : SeenRow) (t : ℤ) : Type 0 where
+  pub at : IsOnAt body looked source marks row t
+  pub apart : ¬ (at.number ≡ number)
+
+-- at each instant of the row with the number another one that is like it is marked
+abbrev pub AreEnough : List Atom → List Bool → List (Option SeenRow) → List Bool → ℕ → Type 0
+AreEnough body looked source marks number = (row : SeenRow) (t : ℤ) → row_at source number ≡ Some row → Has row.span t
+    → IsOtherAt body looked source marks number row t
+
+-- the instant is in the span, if there is one
+abbrev pub HasInstantIn : Option Ends → ℤ → Type 0
+HasInstantIn span t = IsSomeAnd span (λ s. Has s t)
+
 -- the marks are as before but for those of the rows, which are marked no more; those that were are on the list
 pub record AreHidden (rows : List ℕ) (old new : List Bool) (gone : List ℕ) : Type 0 where
   pub off : (number : ℕ) → Contains rows number → ¬ (IsOn new number)
@@ -64,23 +78,31 @@ pub record AreHidden (rows : List ℕ) (old new : List Bool) (gone : List ℕ) :
 
 -- the marks are as before but for that of the row, which is marked no more, and is on the list if it was
 pub record IsHidden (row : ℕ) (old new : List Bool) (list longer : List ℕ) : Type 0 where
+  pub size : length new ≡ length old
   pub off : ¬ (IsOn new row)
   pub less : (number : ℕ) → IsOn new number → IsOn old number
   pub others : (number : ℕ) → ¬ (number ≡ row) → IsOn old number → IsOn new number
   pub added : (number : ℕ) → Contains longer number → Contains list number ⊎ (number ≡ row)
 
--- marks stay; the row may be marked too, and is then on the list
-pub record MayMark (row : ℕ) (old new : List Bool) (list longer : List ℕ) : Type 0 where
+-- for each row that was marked those stand that are still
+abbrev pub StandStill : List Atom → List Bool → List (Option SeenRow) → List Bool → List Bool → Type 0
+StandStill body looked source old new = (number : ℕ) → IsOn old number → IsStoodFor body looked source new number
+
+-- fewer are marked, and stand for those that were
+pub record StandsForLess (body : List Atom) (looked : List Bool) (source : List (Option SeenRow)) (old new : List Bool) : Type 0 where
   pub size : length new ≡ length old
-  pub kept : (number : ℕ) → IsOn old number → IsOn new number
-  pub on : (number : ℕ) → IsOn new number → IsOn old number ⊎ Contains longer number
-  pub grown : (number : ℕ) → Contains list number → Contains longer number
-  pub added : (number : ℕ) → Contains longer number → Contains list number ⊎ ((number ≡ row) × IsOn new row)
+  pub less : (number : ℕ) → IsOn new number → IsOn old number
+  pub stand : StandStill body looked source old new
+
+-- the row may be marked too, and others no more, for which those stand that are
+pub record MayMark (body : List Atom) (looked : List Bool) (source : List (Option SeenRow)) (row : ℕ) (old new : List Bool) : Type 0 where
+  pub size : length new ≡ length old
+  pub on : (number : ℕ) → IsOn new number → IsOn old number ⊎ (number ≡ row)
+  pub stand : StandStill body looked source old new
 
 -- so it is with some of the rows, and one that is like it is marked for each of the first
-pub record AreChosen (body : List Atom) (looked : List Bool) (source : List (Option SeenRow)) (rows : List ℕ) (old new : List Bool) (list : List ℕ) (first : ℕ) : Type 0 where
+pub record AreChosen (body : List Atom) (looked : List Bool) (source : List (Option SeenRow)) (rows : List ℕ) (old new : List Bool) (first : ℕ) : Type 0 where
   pub size : length new ≡ length old
-  pub kept : (number : ℕ) → IsOn old number → IsOn new number
-  pub on : (number : ℕ) → IsOn new number → IsOn old number ⊎ Contains list number
-  pub added : (number : ℕ) → Contains list number → Contains rows number × IsOn new number
+  pub on : (number : ℕ) → IsOn new number → IsOn old number ⊎ Contains rows number
+  pub still : StandStill body looked source old new
   pub stand : (k number : ℕ) → k < first → slice_get rows k ≡ Some number → IsStoodFor body looked source new number

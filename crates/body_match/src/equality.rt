@@ -1,8 +1,7 @@
 //! An index for the matches of a body that give two variables different values. It lasts while the rows of its source change, and
-//! shows as few of them as it needs: where rows have the same cells wherever the body looks, and one is over all of the other's
-//! time, one of them is enough.
+//! shows as few of them as it needs: of rows that have the same cells wherever the body looks, so many as are over all of their time.
 
-ghost use Rattle.std.specs.Prelude.{◌≡◌, ◌≢◌, ◌↔◌, ◌<◌, ◌≤◌, [], ℕ, All, Contains, IsTrue, IfOk, OnOk, IfSome, IfNone};
+ghost use Rattle.std.specs.Prelude.{◌≡◌, ◌≢◌, ◌⊎◌, ◌↔◌, ◌<◌, ◌≤◌, [], ℕ, All, Contains, IsTrue, IfOk, OnOk, IfSome, IfNone};
 ghost use Rattle.rule_core.specs.Validity.{occurrences};
 ghost use Rattle.body_match.specs.declared.found.Match.{Match};
 ghost use Rattle.body_match.specs.Equality.{IsSameEquality, IsShown, IsShownFor, Shows};
@@ -10,7 +9,7 @@ ghost use Rattle.body_match.specs.Index.{IsUnequal, IsUnequalWith, ListsRow};
 ghost use Rattle.body_match.specs.Plans.{IsIndex};
 
 use crate::Match;
-use crate::choice::{Choice, choose, grow, hide, nothing_shown};
+use crate::choice::{Choice, add_hidden, choose, grow, hide, nothing_shown, shown_among};
 use crate::exact::unequal_match;
 use crate::looked::looked_of;
 use crate::plan::{Plan, bare_plans, renew_plans};
@@ -84,8 +83,9 @@ impl EqualityIndex {
         })
     }
 
-    /// Takes in rows that came or changed. For each of them that fits the body, one that has the same cells wherever the body looks, and
-    /// its time, is shown afterwards: another one, or itself. Those of them that are shown are given, in their order.
+    /// Takes in rows that came or changed. For each of them that fits the body, rows that have the same cells wherever the body looks are
+    /// shown at all of its times afterwards: others, or itself. So it is for each that was shown before, though fewer of these may be
+    /// shown then. Those of the given rows that are shown are given back, in their order.
     pub fn take_in<F: FactSource, L: Ledger>(
         &mut self,
         source: &F,
@@ -97,17 +97,17 @@ impl EqualityIndex {
         ensures same { OnOk result (IsSameEquality self.old self.new) }
         ensures listed { OnOk result ((number : ℕ) → IsShown self.new number
             → ListsRow self.new.index (F.rows source.now) number) }
-        ensures others { OnOk result ((number : ℕ) → ¬ (Contains rows.now number)
-            → IsShown self.new number ↔ IsShown self.old number) }
-        ensures stand { OnOk result ((number : ℕ) → Contains rows.now number
+        ensures others { OnOk result ((number : ℕ) → IsShown self.new number
+            → IsShown self.old number ⊎ Contains rows.now number) }
+        ensures stand { OnOk result ((number : ℕ) → Contains rows.now number ⊎ IsShown self.old number
             → IsShownFor self.new (F.rows source.now) number) }
         ensures shown { IfOk result (λ list. (number : ℕ) → Contains list number
             ↔ (Contains rows.now number × IsShown self.new number)) }
     {
-        let gone = hide(self.alloc, &mut self.choice.shown, rows)?;
+        let mut gone = hide(self.alloc, &mut self.choice.shown, rows)?;
         grow(&mut self.choice.shown, source.bound())?;
         let (body, looked) = (self.body.as_slice(), self.looked.as_slice());
-        let fresh = choose(
+        let hidden = choose(
             self.alloc,
             body,
             looked,
@@ -116,6 +116,9 @@ impl EqualityIndex {
             rows,
             steps,
         )?;
+        let shown = self.choice.shown.as_slice();
+        add_hidden(shown, &hidden, &mut gone)?;
+        let fresh = shown_among(self.alloc, shown, rows)?;
         let (gone, listed) = (gone.as_slice(), fresh.as_slice());
         renew_plans(self.alloc, &mut self.plans, source, gone, listed, steps)?;
         Ok(Items::from_vec(fresh))

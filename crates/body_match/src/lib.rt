@@ -20,6 +20,7 @@ mod places;
 mod plan;
 mod register;
 mod search;
+mod seats;
 mod unequal;
 mod using;
 mod visit;

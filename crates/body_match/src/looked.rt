@@ -113,7 +113,8 @@ pub fn looked_key<F: FactSource, L: Ledger>(
     key
 }
 
-// A key, and what a row has where an atom looks mixed into it.
+// A key, and what a row has where an atom looks mixed into it. Its upper half goes into the lower one, since a cell may come twice,
+// and what tells a piece from a constant would cancel.
 fn key_under<F: FactSource, L: Ledger>(
     atom: &Atom,
     looked: &[bool],
@@ -127,7 +128,7 @@ fn key_under<F: FactSource, L: Ledger>(
     let mut key = key;
     for (column, arg) in atom.args.as_slice().iter().enumerate() {
         if is_looked(looked, *arg) {
-            key = mix(key, source.cell(row, column, steps));
+            key = mix(key ^ (key >> 32), source.cell(row, column, steps));
         }
     }
     key

@@ -28,7 +28,8 @@ use Rattle.egd_chase.specs.Shared.{KeepsShared}
 use Rattle.egd_chase.specs.Sides.{HoldsSide, IsFitted, IsUnknownTerm}
 use Rattle.egd_chase.specs.Cutting.{IsCutTo, StartsWith, KeepsFit}
 use Rattle.egd_chase.proofs.ListLemmas.{in_list}
-use Rattle.egd_chase.proofs.WaitLemmas.{is_among, change_twice}
+use Rattle.body_match.proofs.ListLemmas.{is_among}
+use Rattle.egd_chase.proofs.WaitLemmas.{change_twice}
 use Rattle.egd_chase.proofs.TurnLemmas.{cut_more}
 use Rattle.egd_chase.proofs.SharedLemmas.{cut_keeps, more_keep}
 use Rattle.egd_chase.proofs.SideLemmas.{placed, beside, one_row, side_elsewhere, side_before, side_after, cut_changes, cut_spans, not_made}

@@ -24,7 +24,8 @@ use Rattle.egd_chase.specs.Search.{ChangeOnly, HaveSpans}
 use Rattle.egd_chase.specs.Shared.{HasHeir, KeepsShared}
 use Rattle.egd_chase.proofs.ReplaceLemmas.{others_same, not_held}
 use Rattle.egd_chase.proofs.SideLemmas.{placed, beside, one_row, not_made}
-use Rattle.egd_chase.proofs.WaitLemmas.{is_among, change_these}
+use Rattle.body_match.proofs.ListLemmas.{is_among}
+use Rattle.egd_chase.proofs.WaitLemmas.{change_these}
 
 -- a row that stays as it is has in common what it had
 stays : (numbers : List ℕ) (new : List (Option SeenRow)) (row : SeenRow) (t : ℤ) (number : ℕ) (other : SeenRow)

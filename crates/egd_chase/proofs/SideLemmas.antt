@@ -16,7 +16,7 @@ use Rattle.egd_chase.specs.declared.sides.Side.{Side}
 use Rattle.egd_chase.specs.Search.{ChangeOnly, HaveSpans}
 use Rattle.egd_chase.specs.Sides.{HoldsSide}
 use Rattle.egd_chase.proofs.ListLemmas.{in_list}
-use Rattle.egd_chase.proofs.WaitLemmas.{is_among}
+use Rattle.body_match.proofs.ListLemmas.{is_among}
 
 -- what stands at a place of a list, and at the same place of another
 pub placed : (xs : List ℕ) (x : ℕ) → Contains xs x → (k : ℕ) × (slice_get xs k ≡ Some x)

@@ -1,5 +1,5 @@
 -- Rows that wait and rows that are listed, as rows change.
-use Rattle.std.proofs.Common.{◌≡◌, ◌⊎◌, inl, inr, ◌↔◌, ℕ, ℤ, ◌≤◌, Option, Some, None, List, [], ◌∷◌, ◌++◌, length, map, drop, refl, sym, ap, ◌∙◌, subst, arith, All, Contains}
+use Rattle.std.proofs.Common.{◌≡◌, ◌⊎◌, inl, inr, ◌↔◌, ℕ, ℤ, ◌≤◌, Option, Some, None, List, [], ◌∷◌, ◌++◌, length, map, drop, refl, sym, ap, ◌∙◌, subst, arith, ⊎_elim, All, Contains}
 use Rattle.std.specs.Prelude.{IsSomeAnd, slice_get}
 use Rattle.std.specs.List.{AllZip}
 use Rattle.std.specs.Ordering.{ord_max, ord_min}
@@ -19,24 +19,11 @@ use Rattle.body_match.specs.declared.found.Match.{Match}
 use Rattle.body_match.specs.Matches.{seen_value, IsImage, IsImageAt, HoldsAt}
 use Rattle.body_match.specs.Index.{Index, ListsRow, IsNoMore}
 use Rattle.body_match.specs.Equality.{Equality, Recurs, IsLookedAt, FitsBody, IsLike, IsShown, IsShownAt, IsShownFor, Shows, IsSameEquality}
+use Rattle.body_match.proofs.ListLemmas.{is_among}
 use Rattle.body_match.proofs.SearchLemmas.{some_and, and_some, same_some}
 use Rattle.egd_chase.specs.declared.search.Part.{Part}
 use Rattle.egd_chase.specs.Search.{IsUnequalMatch, IsPartFor, AreParts, AllWait, ChangeOnly, CanTake, HasTaken}
 use Rattle.egd_chase.specs.Shared.{HasHeir, KeepsShared}
-
--- a number is among others, or not
-pub is_among : (numbers : List ℕ) (n : ℕ) → Contains numbers n ⊎ ¬ (Contains numbers n)
-is_among [] n = inr (Contains-nil n)
-is_among (m ∷ numbers) n = elim (cases_eq m n) [
-  | inl same ↦ inl (subst (Contains (m ∷ numbers)) same (Contains-head m numbers))
-  | inr differ ↦ elim (is_among numbers n) [
-    | inl c ↦ inl (Contains-cons m n numbers c)
-    | inr none ↦ inr (λ c. elim (Contains-cons_cases m n numbers c) [
-      | inl same ↦ differ same
-      | inr d ↦ none d
-    ])
-  ]
-]
 
 -- one of the numbers is among others, or none is
 meet_cases : (numbers others : List ℕ) → ((n : ℕ) × Contains others n × Contains numbers n)
@@ -285,35 +272,23 @@ module _ (old new : List (Option SeenRow)) (numbers : List ℕ) (change : Change
       let s = is.index.shows.stand number was.before t was.there fit was.instant in
       let heir = shared number s.number row s.other t other at has s.there s.instant in
       let like = heir_is_like number row t was s heir in
-      elim (is_among numbers heir.heir) [
-        | inl c ↦
-            let again = taken.stand heir.heir c heir.later t heir.there (fits_too b.index row heir.later like fits) heir.instant in
-            record {
-              number = again.number;
-              other = again.other;
-              shown = again.shown;
-              there = again.there;
-              like = like_twice b.index row heir.later again.other like again.like;
-              instant = again.instant;
-            }
-        | inr none ↦ elim heir.which [
-          | inl same ↦ record {
-            number = heir.heir;
-            other = heir.later;
-            shown = (taken.others heir.heir none).1 (subst (IsShown a.index) (sym same) s.shown);
-            there = heir.there;
-            like = like;
-            instant = heir.instant;
-          }
-          | inr c ↦ absurd (none c)
-        ]
-      ]
+      let now : Contains numbers heir.heir ⊎ IsShown a.index heir.heir =
+      ⊎_elim (λ same. inr (subst (IsShown a.index) (sym same) s.shown)) (λ c. inl c) heir.which in
+      let again = taken.stand heir.heir now heir.later t heir.there (fits_too b.index row heir.later like fits) heir.instant in
+      record {
+        number = again.number;
+        other = again.other;
+        shown = again.shown;
+        there = again.there;
+        like = like_twice b.index row heir.later again.other like again.like;
+        instant = again.instant;
+      }
 
   shows_after : Shows b.index new
   shows_after = record {
     listed = taken.listed;
     stand = λ number. elim (is_among numbers number) [
-      | inl c ↦ taken.stand number c
+      | inl c ↦ taken.stand number (inl c)
       | inr other ↦ other_stands number other
     ];
   }
@@ -333,7 +308,7 @@ module _ (old new : List (Option SeenRow)) (numbers : List ℕ) (change : Change
         | inr none ↦
             let was = match_was old new egd found m.unequal (λ n c. change n (none n c)) in
             let shown : All (IsShown a.index) found.rows =
-            All-members (IsShown b.index) (IsShown a.index) found.rows (λ n c here. (taken.others n (none n c)).0 here) m.shown in
+            All-members (IsShown b.index) (IsShown a.index) found.rows (λ n c here. ⊎_elim (λ was. was) (λ d. absurd (none n c d)) (taken.others n here)) m.shown in
             let h = is.wait was.0 (record { unequal = was.1; shown = subst (All (IsShown a.index)) (sym was.2) shown }) in (
               h.0,
               subst (λ l. Contains l h.0) (sym queue) (Contains-append_left (drop a.next a.waiting.items) taken.came h.0 h.1),

@@ -1,5 +1,5 @@
 -- The search for matches with unequal sides. No public clause cites this module.
-use Rattle.std.specs.Prelude.{◌≡◌, ◌≢◌, ◌↔◌, ◌<◌, ◌≤◌, ◌++◌, ℕ, List, Option, Some, Contains, All, drop, length, slice_get}
+use Rattle.std.specs.Prelude.{◌≡◌, ◌≢◌, ◌⊎◌, ◌↔◌, ◌<◌, ◌≤◌, ◌++◌, ℕ, List, Option, Some, Contains, All, drop, length, slice_get}
 use Rattle.std.specs.List.{AllZip}
 use Rattle.time_line.specs.Span.{IsSpan}
 use Rattle.rule_core.specs.declared.rules.Egd.{Egd}
@@ -72,8 +72,8 @@ CanTake rows numbers part = (number : ℕ) → ¬ (Contains numbers number) → 
 pub record HasTaken (rows : List (Option SeenRow)) (numbers : List ℕ) (old new : Part) : Type 0 where
   pub same : IsSameEquality old.index new.index
   pub listed : (number : ℕ) → IsShown new.index number → ListsRow new.index.index rows number
-  pub others : (number : ℕ) → ¬ (Contains numbers number) → IsShown new.index number ↔ IsShown old.index number
-  pub stand : (number : ℕ) → Contains numbers number → IsShownFor new.index rows number
+  pub others : (number : ℕ) → IsShown new.index number → IsShown old.index number ⊎ Contains numbers number
+  pub stand : (number : ℕ) → Contains numbers number ⊎ IsShown old.index number → IsShownFor new.index rows number
   pub came : List ℕ
   pub shown : (number : ℕ) → Contains came number ↔ (Contains numbers number × IsShown new.index number)
   pub waiting : new.waiting.items ≡ old.waiting.items ++ came

@@ -4,4 +4,4 @@ use Rattle.body_match.proofs.choice.choose.Given as goal
 
 abbrev pub invariant-loop-row : goal.invariant-loop-row
 invariant-loop-row g l =
-    AreChosen l.body l.looked (g.F.FactSource.rows l.source) l.rows l.fn.choice.shown.items l.choice.shown.items l.fresh.items l.row-index
+    AreChosen l.body l.looked (g.F.FactSource.rows l.source) l.rows l.fn.choice.shown.items l.choice.shown.items l.row-index
