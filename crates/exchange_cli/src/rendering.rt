@@ -105,6 +105,7 @@ fn stored_rows(
         rows ≡ map stamped_row (stored_table pool.now nulls.now table.now)) }
 {
     let mut rows = Items::new(alloc);
+    rows.room(table.len())?;
     for entry in table {
         let cells = stored_cells(alloc, pool, nulls, entry.row.as_slice())?;
         let span = Some(entry.span);
@@ -126,6 +127,7 @@ pub fn stored_cells(
         map term_of cells ≡ map (stored_term pool.now nulls.now) row.now) }
 {
     let mut cells = Items::new(alloc);
+    cells.room(row.len())?;
     for term in row {
         cells.push(stored_cell(alloc, pool, nulls, term)?)?;
     }

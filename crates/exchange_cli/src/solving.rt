@@ -21,7 +21,7 @@ use exchange_engine::{Loaded, Outcome, Solved, exchange, load};
 use std::alloc::Global;
 use std::marker::Brand;
 use std::sync::ledger::{Blank, Ledger};
-use term_core::{Memory, Steps};
+use term_core::{Items, Memory, Steps};
 
 /// What an exchange makes: the files of a target, and what is printed of it; or a certificate, where some instant has no solution.
 pub fn solve(alloc: Global, target: &str, inputs: Inputs) -> Result<Product, Memory>
@@ -34,27 +34,45 @@ pub fn solve(alloc: Global, target: &str, inputs: Inputs) -> Result<Product, Mem
     let loaded = load_inputs(alloc, inputs)?;
     let outcome = exchanged::<Brand>(alloc, &loaded, Blank::new(1))?;
     match outcome {
-        Outcome::Solved(solved) => tell(alloc, target, &loaded, &solved),
+        Outcome::Solved(solved) => tell(alloc, target, &loaded, solved),
         Outcome::Failed(trace) => refute(alloc, target, &trace),
     }
 }
 
-// The files of a target, and what is printed of it.
-fn tell(alloc: Global, target: &str, loaded: &Loaded, solved: &Solved) -> Result<Product, Memory>
-    requires { IsSolvedFrom loaded.now solved.now }
+// The files of a target, and what is printed of it. The run behind it is given up first, since the files need memory.
+fn tell(alloc: Global, target: &str, loaded: &Loaded, solved: Solved) -> Result<Product, Memory>
+    requires { IsSolvedFrom loaded.now solved }
     ensures { IfOk result (λ product. (inputs : InputsValue) → IsLoadedFrom inputs loaded.now
         → IsSolved inputs target.now product) }
 {
     stored_tables_are_a_target();
     stored_answers_are_certain();
+    let Solved {
+        tables,
+        answers,
+        nulls,
+        counts,
+        firings,
+        journal,
+    } = solved;
+    drop(firings);
+    drop(journal);
     let finding = Finding::Solved {
-        pieces: solved.counts.pieces,
-        firings: solved.counts.firings,
-        steps: solved.counts.steps,
-        cuts: solved.counts.cuts,
+        pieces: counts.pieces,
+        firings: counts.firings,
+        steps: counts.steps,
+        cuts: counts.cuts,
+    };
+    let shown = Solved {
+        tables,
+        answers,
+        nulls,
+        counts,
+        firings: Items::new(alloc),
+        journal: Items::new(alloc),
     };
     Ok(Product {
-        files: render(alloc, loaded, solved, target)?,
+        files: render(alloc, loaded, &shown, target)?,
         line: printed_line(alloc, finding)?,
         finding,
     })

@@ -58,6 +58,7 @@ fn add_candidates<L: Ledger>(
     ensures { OnOk result (AddsCandidates table.now rule tgd.now list.old.items list.new.items) }
 {
     let variables = frontier(alloc, tgd)?;
+    list.reserve(table.facts().len())?;
     let mut finder = Finder {
         alloc,
         rule,

@@ -12,10 +12,6 @@ returns-clause-coalesced c = rw (c.from_vec-2.ensures, c.truncate.ensures.items)
 pub returns-clause-covers : goal.returns-clause-covers
 returns-clause-covers c row t =
     rw (c.from_vec-2.ensures, c.truncate.ensures.items, ← c.into_vec-rows.ensures) (
-      λ d. covers_moved _ _ (IsPermutation-sym _ _ c.sort_unstable.ensures.permutation) row t ((c.sweep-last.ensures.covers row t).0 d),
-      λ d. (c.sweep-last.ensures.covers row t).1 (covers_moved _ _ c.sort_unstable.ensures.permutation row t d),
+      λ d. covers_moved _ _ (IsPermutation-sym _ _ c.in_ok-put_in_order.ensures.permutation) row t ((c.sweep-last.ensures.covers row t).0 d),
+      λ d. (c.sweep-last.ensures.covers row t).1 (covers_moved _ _ c.in_ok-put_in_order.ensures.permutation row t d),
     )
-
-pub sweep-last-requires-clause-sorted : goal.sweep-last-requires-clause-sorted
-sweep-last-requires-clause-sorted c =
-    sorted_alike _ (stamped_cmp (slice_cmp term_cmp)) entries_alike _ c.sort_unstable.ensures.sorted

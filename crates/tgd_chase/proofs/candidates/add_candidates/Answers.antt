@@ -1,4 +1,4 @@
-use Rattle.std.proofs.Common.{ap, subst, List}
+use Rattle.std.proofs.Common.{ap, ◌∙◌, subst, List}
 use Rattle.rule_core.specs.Firing.{frontier_of}
 use Rattle.rule_core.proofs.FiringLemmas.{frontier_is, one_frontier}
 use Rattle.tgd_chase.specs.Candidates.{AddsCandidates}
@@ -16,4 +16,4 @@ returns g c =
     (visits.3 c.if-prove.false) visits.4 (λ i. c.args.rule)
     (one_frontier tgd c.in_ok-variables.variables (frontier_of tgd) c.in_ok-variables.ensures (frontier_is tgd)) in
     subst (λ (l : List Candidate). AddsCandidates c.args.table.now c.args.rule tgd l c.visit_matches.new.visitor.list.items)
-    (ap (λ v. v.items) c.replace.ensures.value) h
+    (ap (λ v. v.items) c.replace.ensures.value ∙ c.in_ok-reserve.ensures.items) h
