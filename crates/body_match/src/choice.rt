@@ -20,8 +20,16 @@ use time_line::Span;
 #[derive(Drop)]
 pub struct Choice {
     pub shown: Vec<bool>,
-    pub latest: HashMap<u64, usize>,
+    pub latest: HashMap<u64, Latest>,
     pub seats: BTreeSet<Seat>,
+}
+
+/// The row that was shown last under a key.
+#[derive(Clone, Copy, Debug)]
+pub struct Latest {
+    pub row: usize,
+    /// Whether it has a seat: the first row under a key gets one when another comes.
+    pub seated: bool,
 }
 
 /// No row is shown.
@@ -140,24 +148,28 @@ fn choose_one<F: FactSource, L: Ledger>(
     }
     let key = looked_key(body, looked, source, &head, row, steps);
     let seat = seat_of(key, &head.span, row);
-    let Some(other) = choice.latest.get(&key).copied() else {
-        return show(choice, seat);
+    let Some(latest) = choice.latest.get(&key).copied() else {
+        return show(choice, seat, false);
     };
     let shown = choice.shown.as_slice();
-    if are_enough(body, looked, shown, source, row, &[other], steps) {
+    if are_enough(body, looked, shown, source, row, &[latest.row], steps) {
         return Ok(());
     }
-    take_seat(&mut choice.seats, shown, source, key, other)?;
-    let around = rows_of(
-        seat_before(&choice.seats, &seat),
-        seat_after(&choice.seats, &seat),
-        row,
-    );
+    if !latest.seated {
+        take_seat(&mut choice.seats, shown, source, key, latest.row)?;
+    }
+    let before = seat_before(&choice.seats, &seat);
+    let after = seat_after(&choice.seats, &seat);
+    if !is_near(source, before, &head.span) && !is_near(source, after, &head.span) {
+        choice.seats.insert(seat)?;
+        return show(choice, seat, true);
+    }
+    let around = rows_of(before, after, row);
     if are_enough(body, looked, shown, source, row, &around, steps) {
         return Ok(());
     }
-    show(choice, seat)?;
     choice.seats.insert(seat)?;
+    show(choice, seat, true)?;
     hide_inside(body, looked, choice, source, seat, hidden, steps)?;
     hide_before(body, looked, choice, source, seat, hidden, steps)?;
     hide_after(body, looked, choice, source, seat, hidden, steps)?;
@@ -256,6 +268,17 @@ fn hide_if<F: FactSource, L: Ledger>(
     Ok(true)
 }
 
+// Whether the row of a seat, if there is one, has an instant of a span.
+fn is_near<F: FactSource>(source: &F, seat: Option<Seat>, span: &Span) -> bool {
+    let Some(seat) = seat else {
+        return false;
+    };
+    match source.head(seat.row) {
+        Some(head) => head.span.meet(span).is_some(),
+        None => false,
+    }
+}
+
 // The rows of two seats, or another one where there is no seat.
 fn rows_of(first: Option<Seat>, second: Option<Seat>, other: usize) -> [usize; 2] {
     [
@@ -281,15 +304,19 @@ fn take_seat<F: FactSource>(
     Ok(())
 }
 
-// Shows a row, which is the last one under its key then.
-fn show(choice: &mut Choice, seat: Seat) -> Result<(), Memory>
+// Shows a row, which is the last one under its key then; whether it has a seat.
+fn show(choice: &mut Choice, seat: Seat, seated: bool) -> Result<(), Memory>
     requires { seat.row < length choice.old.shown.items }
     ensures size { length choice.new.shown.items ≡ length choice.old.shown.items }
     ensures on { OnOk result (IsOn choice.new.shown.items seat.row) }
     ensures kept { (number : ℕ) → IsOn choice.old.shown.items number → IsOn choice.new.shown.items number }
     ensures less { (number : ℕ) → IsOn choice.new.shown.items number → IsOn choice.old.shown.items number ⊎ (number ≡ seat.row) }
 {
-    choice.latest.insert(seat.key, seat.row)?;
+    let latest = Latest {
+        row: seat.row,
+        seated,
+    };
+    choice.latest.insert(seat.key, latest)?;
     choice.shown[seat.row] = true;
     Ok(())
 }

@@ -1,5 +1,5 @@
-use Rattle.std.proofs.Common.{◌≡◌, ◌⊎◌, ℕ, Bool, List, length, sym, subst}
-use Rattle.body_match.specs.Choice.{IsOn, IsStoodFor, StandsForLess}
+use Rattle.std.proofs.Common.{◌≡◌, ◌⊎◌, ℕ, Bool, List, subst}
+use Rattle.body_match.specs.Choice.{IsOn, StandsForLess}
 use Rattle.body_match.proofs.ChoiceLemmas.{less_twice, one_marked}
 use Rattle.body_match.proofs.choice.choose_one.Given.{Over}
 use Rattle.body_match.proofs.choice.choose_one.Goals as goal
