@@ -14,7 +14,7 @@ use exchange_engine::Loaded;
 use fact_table::Fact;
 use std::alloc::Global;
 use temporal_csv::{Cell, OutRow};
-use term_core::{ConstId, Items, Memory, Pool, Text};
+use term_core::{ConstId, Items, Memory, Pool};
 
 /// The files of the pieces of a source, a table for each relation, in their order.
 pub fn piece_files(
@@ -51,7 +51,11 @@ fn facts_in(pieces: &[Fact], relation: usize) -> &[Fact]
 }
 
 // The rows of pieces as they are stored.
-fn piece_rows(alloc: Global, pool: &Pool, pieces: &[Fact]) -> Result<Items<OutRow>, Memory>
+fn piece_rows<'a>(
+    alloc: Global,
+    pool: &'a Pool,
+    pieces: &[Fact],
+) -> Result<Items<OutRow<'a>>, Memory>
     requires { AreInPool (length pool.now) pieces.now }
     ensures { IfOk result (λ rows. rows ≡ map stamped_row (piece_table pool.now pieces.now)) }
 {
@@ -66,22 +70,26 @@ fn piece_rows(alloc: Global, pool: &Pool, pieces: &[Fact]) -> Result<Items<OutRo
 }
 
 // The cells of a piece as they are stored.
-fn piece_cells(alloc: Global, pool: &Pool, row: &[ConstId]) -> Result<Items<Cell>, Memory>
+fn piece_cells<'a>(
+    alloc: Global,
+    pool: &'a Pool,
+    row: &[ConstId],
+) -> Result<Items<Cell<'a>>, Memory>
     requires { IsInPool (length pool.now) row.now }
     ensures { IfOk result (λ cells. map term_of cells ≡ piece_terms pool.now row.now) }
 {
     let mut cells = Items::new(alloc);
     cells.room(row.len())?;
     for id in row {
-        cells.push(piece_cell(alloc, pool, *id)?)?;
+        cells.push(piece_cell(pool, *id))?;
     }
     Ok(cells)
 }
 
 // A constant by its text.
-fn piece_cell(alloc: Global, pool: &Pool, id: ConstId) -> Result<Cell, Memory>
+fn piece_cell(pool: &Pool, id: ConstId) -> Cell<'_>
     requires { id.0 < length pool.now }
-    ensures { IfOk result (λ cell. term_of cell ≡ piece_term pool.now id) }
+    ensures { term_of result ≡ piece_term pool.now id }
 {
-    Ok(Cell::Const(Text::from_str(alloc, pool.text(id))?))
+    Cell::Const(pool.text(id))
 }

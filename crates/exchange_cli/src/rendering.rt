@@ -17,7 +17,7 @@ use exchange_engine::{Loaded, Solved};
 use std::alloc::Global;
 use temporal_csv::{Cell, OutRow};
 use term_core::laws::unknowns_have_one_order;
-use term_core::{Items, Memory, Pool, Term, Text, Unknown};
+use term_core::{Items, Memory, Pool, Term, Unknown};
 
 /// The files of a target, in the order in which they are stored: a table for each relation, the answers of each query, and then
 /// the verdict.
@@ -93,12 +93,12 @@ fn table_files(
 }
 
 // The rows of a table as they are stored.
-fn stored_rows(
+fn stored_rows<'a>(
     alloc: Global,
-    pool: &Pool,
+    pool: &'a Pool,
     nulls: &[Unknown],
     table: &[Stamped],
-) -> Result<Items<OutRow>, Memory>
+) -> Result<Items<OutRow<'a>>, Memory>
     requires within { All (λ e. All (IsTermWithin (length pool.now)) e.row) table.now }
     requires ascending { AllPairs (λ u w. unknown_cmp u w ≡ Less) nulls.now }
     ensures { IfOk result (λ rows.
@@ -115,12 +115,12 @@ fn stored_rows(
 }
 
 /// The cells of a row as they are stored.
-pub fn stored_cells(
+pub fn stored_cells<'a>(
     alloc: Global,
-    pool: &Pool,
+    pool: &'a Pool,
     nulls: &[Unknown],
     row: &[Term],
-) -> Result<Items<Cell>, Memory>
+) -> Result<Items<Cell<'a>>, Memory>
     requires within { All (IsTermWithin (length pool.now)) row.now }
     requires ascending { AllPairs (λ u w. unknown_cmp u w ≡ Less) nulls.now }
     ensures { IfOk result (λ cells.
@@ -129,20 +129,20 @@ pub fn stored_cells(
     let mut cells = Items::new(alloc);
     cells.room(row.len())?;
     for term in row {
-        cells.push(stored_cell(alloc, pool, nulls, term)?)?;
+        cells.push(stored_cell(pool, nulls, term))?;
     }
     Ok(cells)
 }
 
 // A constant by its text, and an unknown by its number.
-fn stored_cell(alloc: Global, pool: &Pool, nulls: &[Unknown], term: &Term) -> Result<Cell, Memory>
+fn stored_cell<'a>(pool: &'a Pool, nulls: &[Unknown], term: &Term) -> Cell<'a>
     requires within { IsTermWithin (length pool.now) term.now }
     requires ascending { AllPairs (λ u w. unknown_cmp u w ≡ Less) nulls.now }
-    ensures { IfOk result (λ cell. term_of cell ≡ stored_term pool.now nulls.now term.now) }
+    ensures { term_of result ≡ stored_term pool.now nulls.now term.now }
 {
     match term {
-        Term::Const(id) => Ok(Cell::Const(Text::from_str(alloc, pool.text(*id))?)),
-        Term::Null(unknown) => Ok(Cell::Null(rank(nulls, unknown))),
+        Term::Const(id) => Cell::Const(pool.text(*id)),
+        Term::Null(unknown) => Cell::Null(rank(nulls, unknown)),
     }
 }
 

@@ -137,7 +137,7 @@ fn bare_file(
     alloc: Global,
     out: &str,
     relation: &Relation,
-    rows: &Items<OutRow>,
+    rows: &Items<OutRow<'_>>,
 ) -> Result<FileOut, Memory>
     requires valid { IsRelation relation.now }
     requires widths { All (IsAsWideAs relation.now.columns) rows.now }
@@ -153,13 +153,13 @@ fn bare_file(
 }
 
 // The rows of a table that hold at the instant, as they are stored. A coalesced table has each of them once, in order.
-fn rows_at(
+fn rows_at<'a>(
     alloc: Global,
-    pool: &Pool,
+    pool: &'a Pool,
     nulls: &[Unknown],
     table: &[Stamped],
     instant: i64,
-) -> Result<Items<OutRow>, Memory>
+) -> Result<Items<OutRow<'a>>, Memory>
     requires within { All (λ e. All (IsTermWithin (length pool.now)) e.row) table.now }
     requires ascending { AllPairs (λ u w. unknown_cmp u w ≡ Less) nulls.now }
     ensures { IfOk result (λ rows.

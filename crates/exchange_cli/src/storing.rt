@@ -22,7 +22,7 @@ pub fn table_file(
     alloc: Global,
     target: &str,
     relation: &Relation,
-    rows: &Items<OutRow>,
+    rows: &Items<OutRow<'_>>,
 ) -> Result<FileOut, Memory>
     requires valid { IsRelation relation.now }
     requires widths { All (IsAsWideAs (header_of relation.now.columns)) rows.now }
@@ -43,7 +43,7 @@ pub fn answer_file(
     alloc: Global,
     target: &str,
     query: &Query,
-    rows: &Items<OutRow>,
+    rows: &Items<OutRow<'_>>,
 ) -> Result<FileOut, Memory>
     requires names { All IsName query.now.head }
     requires widths { All (IsAsWideAs (header_of query.now.head)) rows.now }

@@ -6,5 +6,5 @@ use Rattle.temporal_csv.specs.declared.cell.Cell.TheVariants.{Const, Null}
 
 -- the term of a cell: a constant with its text, or an unknown with its number
 abbrev pub term_of : Cell → TermOf (List ℕ)
-term_of (Const text) = constant text
+term_of (Const text) = constant text.now
 term_of (Null number) = unknown (numbered number)

@@ -12,18 +12,18 @@ use term_core::{Memory, Text};
 /// The byte that marks an unknown, and that is doubled where a constant begins with it.
 const MARK: u8 = b'?';
 
-/// A cell of a row that is stored.
-#[derive(Debug, Drop)]
-pub enum Cell {
+/// A cell of a row that is stored. Its text is not its own, so that a table takes no memory for texts.
+#[derive(Clone, Copy, Debug)]
+pub enum Cell<'a> {
     /// A constant, by its text.
-    Const(Text),
+    Const(&'a str),
     /// An unknown, by its number.
     Null(u64),
 }
 
 /// The text of a cell as it is stored: a constant's own, with one more `?` in front where it begins with `?`, and `?`
 /// with its number for an unknown.
-pub fn cell_text(alloc: Global, cell: &Cell) -> Result<Text, Memory>
+pub fn cell_text(alloc: Global, cell: &Cell<'_>) -> Result<Text, Memory>
     ensures { IfOk result (λ text. text ≡ cell_text (term_of cell.now)) }
 {
     let mut text = String::new(alloc);
@@ -32,13 +32,13 @@ pub fn cell_text(alloc: Global, cell: &Cell) -> Result<Text, Memory>
 }
 
 /// Adds the text of a cell.
-pub fn append_cell(text: &mut String, cell: &Cell) -> Result<(), AllocError>
+pub fn append_cell(text: &mut String, cell: &Cell<'_>) -> Result<(), AllocError>
     ensures text { OnOk result (string_bytes text.new
         ≡ string_bytes text.old ++ cell_text (term_of cell.now)) }
     ensures fits { FitsWord (term_of cell.now) }
 {
     match cell {
-        Cell::Const(constant) => append_constant(text, constant.as_str()),
+        Cell::Const(constant) => append_constant(text, constant),
         Cell::Null(number) => append_unknown(text, *number),
     }
 }

@@ -7,12 +7,12 @@ use time_line::Span;
 
 /// A row that is stored: its cells, and the span over which it holds, where the table has spans.
 #[derive(Debug, Drop)]
-pub struct OutRow {
-    pub cells: Items<Cell>,
+pub struct OutRow<'a> {
+    pub cells: Items<Cell<'a>>,
     pub span: Option<Span>,
 }
 
-impl Model for OutRow {
+impl<'a> Model for OutRow<'a> {
     ghost use Rattle.std.specs.Prelude.{map};
     ghost use Rattle.temporal_csv.specs.Cells.{term_of};
     ghost use Rattle.temporal_csv.specs.Stored.{StoredRow};

@@ -21,7 +21,7 @@ use time_line::{Side, Span, write_end};
 pub fn write_table(
     alloc: Global,
     header: &Items<Text>,
-    rows: &Items<OutRow>,
+    rows: &Items<OutRow<'_>>,
 ) -> Result<Items<u8>, Memory>
     requires some { 0 < length header.now }
     requires letters { All BeginsWithLetter header.now }
@@ -80,7 +80,11 @@ fn write_header(
     write_record(out, fields)
 }
 
-fn write_row(out: &mut Writer<Vec<u8>>, scratch: &mut Scratch, row: &OutRow) -> Result<(), Memory>
+fn write_row(
+    out: &mut Writer<Vec<u8>>,
+    scratch: &mut Scratch,
+    row: &OutRow<'_>,
+) -> Result<(), Memory>
     requires { IsBetween out.old }
     ensures between { OnOk result (IsBetween out.new) }
     ensures text { OnOk result (written_text out.new
@@ -108,7 +112,7 @@ fn write_record(out: &mut Writer<Vec<u8>>, fields: &ByteRecord) -> Result<(), Me
 }
 
 // Adds the text of each cell.
-fn push_cells(fields: &mut ByteRecord, text: &mut String, cells: &[Cell]) -> Result<(), Memory>
+fn push_cells(fields: &mut ByteRecord, text: &mut String, cells: &[Cell<'_>]) -> Result<(), Memory>
     requires { partial_of fields.old ≡ [] }
     ensures all { OnOk result (fields_of fields.new
         ≡ fields_of fields.old ++ map cell_text (map term_of cells.now)) }
@@ -122,7 +126,7 @@ fn push_cells(fields: &mut ByteRecord, text: &mut String, cells: &[Cell]) -> Res
 }
 
 // Adds the text of a cell.
-fn push_cell(fields: &mut ByteRecord, text: &mut String, cell: &Cell) -> Result<(), Memory>
+fn push_cell(fields: &mut ByteRecord, text: &mut String, cell: &Cell<'_>) -> Result<(), Memory>
     requires { partial_of fields.old ≡ [] }
     ensures one { OnOk result (fields_of fields.new
         ≡ fields_of fields.old ++ cell_text (term_of cell.now) ∷ []) }
