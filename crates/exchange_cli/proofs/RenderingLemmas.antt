@@ -1,5 +1,13 @@
 -- How the tables of a target are written.
-use Rattle.std.proofs.Common.{◌≡◌, ℕ, ◌+◌, ◌<◌, ◌≤◌, List, [], ◌∷◌, ◌++◌, map, take, subst, ◌∙◌, length, get_or, sym, ap, arith, All, length-append}
+use Rattle.std.proofs.Common.{◌≡◌, refl, ℕ, ◌+◌, ◌<◌, ◌≤◌, true, false, List, [], ◌∷◌, ◌++◌, map, take, subst, ◌∙◌, length, get_or, sym, ap, arith, All, AllPairs, count_by, Some, slice_get, length-append}
+use Rattle.std.specs.declared.cmp.Ordering.{Ordering}
+use Rattle.std.specs.declared.cmp.Ordering.TheVariants.{Less, Equal, Greater}
+use Rattle.std.specs.Ordering.{is_eq, is_lt, nat_cmp}
+use Rattle.std.proofs.lemmas.Bool.Decides.{nat_tests}
+use Rattle.std.proofs.lemmas.Option.{get_or_from_slice_get, slice_get_within}
+use Rattle.term_core.specs.Order.{unknown_cmp}
+use Rattle.std.specs.Cmp.{IsTotalOrder}
+use Rattle.certain_answers.proofs.RankLemmas.{count_is_point, places_cmp}
 use Rattle.std.proofs.lemmas.Slice.Zip.{AllZip-long}
 use Rattle.std.proofs.lemmas.List.{length-map, map-append, take_all, take_more}
 use Rattle.std.proofs.lemmas.List.Elements.{All-map, All-weaker}
@@ -19,6 +27,33 @@ use Rattle.exchange_cli.proofs.StoringLemmas.{files_push}
 -- the rows of a table are as wide as its relation
 abbrev pub AreWide : Relation → TermTable → Type 0
 AreWide relation table = All (λ e. length e.row ≡ length relation.columns) table
+
+-- what comes neither before nor after is equal
+pub is_eq-Equal : (r : Ordering) → is_eq r ≡ true → r ≡ Equal
+is_eq-Equal Less e = absurd cc
+is_eq-Equal Equal e = refl
+is_eq-Equal Greater e = absurd cc
+
+-- a lesser place comes before a greater one, and no other does
+lesser_place : (i k : ℕ) → i < k → is_lt (nat_cmp i k) ≡ true
+lesser_place i k h = grind (arith, nat_tests)
+
+later_place : (i k : ℕ) → k ≤ i → is_lt (nat_cmp i k) ≡ false
+later_place i k h = grind (arith, nat_tests)
+
+-- as many ascending unknowns come before one of them as its place tells
+pub place_is_count : IsTotalOrder unknown_cmp → (nulls : List HeldUnknown) → AllPairs (λ u w. unknown_cmp u w ≡ Less) nulls
+    → (k : ℕ) (u : HeldUnknown) → slice_get nulls k ≡ Some u → count_by (λ w. is_lt (unknown_cmp w u)) nulls ≡ k
+place_is_count total nulls ascending k u found =
+    let within : k < length nulls = slice_get_within nulls k u found in
+    let here : get_or nulls k u ≡ u = get_or_from_slice_get nulls k u u found in
+    let at : (i : ℕ) (d : HeldUnknown) → i < length nulls → is_lt (unknown_cmp (get_or nulls i d) u) ≡ is_lt (nat_cmp i k) =
+    λ i d in_list. ap (λ v. is_lt (unknown_cmp (get_or nulls i d) v)) (sym (get_or_from_slice_get nulls k u d found))
+    ∙ ap is_lt (places_cmp unknown_cmp total nulls ascending i k d in_list within) in
+    count_is_point (λ w. is_lt (unknown_cmp w u)) nulls k (omega (arith, within)) (
+      λ i d low high. at i d (omega (arith, high, within)) ∙ lesser_place i k high,
+      λ i d low high. at i d high ∙ later_place i k low,
+    )
 
 module _ (relations : List Relation) (tables : List TermTable) (are : AreTargetTables relations tables) where
   pub same_size : length relations ≡ length tables

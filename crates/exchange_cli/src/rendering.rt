@@ -1,6 +1,6 @@
 //! A target as files: each constant as its text, and each unknown by its number among those of the target.
 
-ghost use Rattle.std.specs.Prelude.{◌≡◌, All, AllPairs, IfOk, length, map};
+ghost use Rattle.std.specs.Prelude.{◌≡◌, ◌+◌, ◌<◌, ◌≤◌, All, AllPairs, IfOk, IsTrue, length, map};
 ghost use Rattle.std.specs.declared.cmp.Ordering.TheVariants.{Less};
 ghost use Rattle.term_core.specs.Order.{unknown_cmp};
 ghost use Rattle.temporal_csv.specs.Cells.{term_of};
@@ -106,19 +106,21 @@ fn stored_rows<'a>(
 {
     let mut rows = Items::new(alloc);
     rows.room(table.len())?;
+    let mut near = 0;
     for entry in table {
-        let cells = stored_cells(alloc, pool, nulls, entry.row.as_slice())?;
+        let cells = stored_cells(alloc, pool, nulls, &mut near, entry.row.as_slice())?;
         let span = Some(entry.span);
         rows.push(OutRow { cells, span })?;
     }
     Ok(rows)
 }
 
-/// The cells of a row as they are stored.
+/// The cells of a row as they are stored. Unknowns are looked for near a place first, which is that of the last one then.
 pub fn stored_cells<'a>(
     alloc: Global,
     pool: &'a Pool,
     nulls: &[Unknown],
+    near: &mut usize,
     row: &[Term],
 ) -> Result<Items<Cell<'a>>, Memory>
     requires within { All (IsTermWithin (length pool.now)) row.now }
@@ -129,28 +131,68 @@ pub fn stored_cells<'a>(
     let mut cells = Items::new(alloc);
     cells.room(row.len())?;
     for term in row {
-        cells.push(stored_cell(pool, nulls, term))?;
+        cells.push(stored_cell(pool, nulls, near, term))?;
     }
     Ok(cells)
 }
 
-// A constant by its text, and an unknown by its number.
-fn stored_cell<'a>(pool: &'a Pool, nulls: &[Unknown], term: &Term) -> Cell<'a>
+// A constant by its text, and an unknown by its number: its place among ascending ones, counted from 1.
+fn stored_cell<'a>(pool: &'a Pool, nulls: &[Unknown], near: &mut usize, term: &Term) -> Cell<'a>
     requires within { IsTermWithin (length pool.now) term.now }
     requires ascending { AllPairs (λ u w. unknown_cmp u w ≡ Less) nulls.now }
     ensures { term_of result ≡ stored_term pool.now nulls.now term.now }
 {
     match term {
         Term::Const(id) => Cell::Const(pool.text(*id)),
-        Term::Null(unknown) => Cell::Null(rank(nulls, unknown)),
+        Term::Null(unknown) => {
+            let place = place_near(nulls, *near, unknown);
+            *near = place;
+            Cell::Null(place as u64 + 1)
+        }
     }
 }
 
-// The number of an unknown among ascending ones: its place, counted from 1.
-fn rank(nulls: &[Unknown], unknown: &Unknown) -> u64
+// The place of an unknown among ascending ones. It is looked for at a place and at the next one first: the rows of a table
+// come in order, and so do their unknowns.
+fn place_near(nulls: &[Unknown], near: usize, unknown: &Unknown) -> usize
     requires { AllPairs (λ u w. unknown_cmp u w ≡ Less) nulls.now }
-    ensures { result ≡ rank_in nulls.now unknown.now }
+    ensures within { result ≤ length nulls.now }
+    ensures place { result + 1 ≡ rank_in nulls.now unknown.now }
+{
+    if is_at(nulls, near, unknown) {
+        return near;
+    }
+    let next = near.saturating_add(1);
+    if is_at(nulls, next, unknown) {
+        return next;
+    }
+    place_of(nulls, unknown)
+}
+
+// Whether an unknown stands at a place.
+fn is_at(nulls: &[Unknown], place: usize, unknown: &Unknown) -> bool
+    requires { AllPairs (λ u w. unknown_cmp u w ≡ Less) nulls.now }
+    ensures within { IsTrue result → place < length nulls.now }
+    ensures place { IsTrue result → place + 1 ≡ rank_in nulls.now unknown.now }
 {
     unknowns_have_one_order();
-    nulls.partition_point(|other| other.cmp(unknown).is_lt()) as u64 + 1
+    place < nulls.len() && are_same(&nulls[place], unknown)
+}
+
+// Whether two unknowns are one.
+fn are_same(unknown: &Unknown, other: &Unknown) -> bool
+    ensures { IsTrue result → unknown.now ≡ other.now }
+{
+    unknowns_have_one_order();
+    unknown.cmp(other).is_eq()
+}
+
+// The place of an unknown among ascending ones, found by halves.
+fn place_of(nulls: &[Unknown], unknown: &Unknown) -> usize
+    requires { AllPairs (λ u w. unknown_cmp u w ≡ Less) nulls.now }
+    ensures within { result ≤ length nulls.now }
+    ensures place { result + 1 ≡ rank_in nulls.now unknown.now }
+{
+    unknowns_have_one_order();
+    nulls.partition_point(|other| other.cmp(unknown).is_lt())
 }

@@ -166,9 +166,10 @@ fn rows_at<'a>(
         rows ≡ map bare_row (snapshot_at (stored_table pool.now nulls.now table.now) instant)) }
 {
     let mut rows = Items::new(alloc);
+    let mut near = 0;
     for entry in table {
         if entry.span.has(instant) {
-            let cells = stored_cells(alloc, pool, nulls, entry.row.as_slice())?;
+            let cells = stored_cells(alloc, pool, nulls, &mut near, entry.row.as_slice())?;
             rows.push(OutRow { cells, span: None })?;
         }
     }

@@ -4,10 +4,10 @@ use Rattle.std.specs.Ordering.{is_lt}
 use Rattle.std.proofs.lemmas.List.Sorted.{IsPartitionPoint-from_clause}
 use Rattle.term_core.specs.Order.{unknown_cmp}
 use Rattle.certain_answers.proofs.RankLemmas.{lesser_stand_first, count_is_point}
-use Rattle.exchange_cli.proofs.rendering.rank.Goals as goal
+use Rattle.exchange_cli.proofs.rendering.place_of.Goals as goal
 
-pub returns : goal.returns
-returns c =
+pub returns-clause-place : goal.returns-clause-place
+returns-clause-place c =
     let nulls = c.args.nulls.now in
     let unknown = c.args.unknown.now in
     let at = c.partition_point.result in
