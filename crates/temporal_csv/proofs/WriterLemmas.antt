@@ -1,19 +1,18 @@
 -- What a table's writer has written so far.
-use Rattle.std.proofs.Common.{◌≡◌, ◌<◌, ◌+◌, ◌++◌, ◌∷◌, ◌∙◌, [], ℕ, List, true, refl, sym, append_assoc, get_or, length, map, take}
-use Rattle.std.specs.Prelude.{All}
+use Rattle.std.proofs.Common.{◌≡◌, ◌<◌, ◌+◌, ◌++◌, ◌∷◌, ◌∙◌, [], ℕ, List, true, refl, sym, subst, append_assoc, ap, length, take}
+use Rattle.std.specs.Prelude.{All, IsSomeAnd, Option, Some, slice_get}
 use Rattle.std.specs.declared.alloc.Global.{Global}
 use Rattle.std.specs.declared.vec.Vec.{Vec}
 use Rattle.std.proofs.lemmas.List.{append-nil, map-append, take_more}
 use Rattle.std.proofs.lemmas.List.Concat.{flat_map-append}
 use Rattle.std.proofs.lemmas.List.Elements.{All-nil, All-push}
+use Rattle.std.proofs.lemmas.Option.{get_or_from_slice_get, slice_get-get_or, slice_get_within}
 use Rattle.csv.specs.Writing.{default_writer, escaped, field_text, fields_text, is_blank, row_text, with_flexible}
 use Rattle.csv.specs.declared.writer.Writer.{Writer}
 use Rattle.csv.specs.declared.writer.WriterBuilder.{WriterBuilder}
 use Rattle.rule_core.specs.Terms.{TermOf, constant, unknown, numbered, named}
-use Rattle.temporal_csv.specs.Cells.{term_of}
-use Rattle.temporal_csv.specs.Stored.{AreNumbered, HasStorableEnds, IsNumberedFromOne, IsStorable, IsStorableRow, StoredRow, record_of, table_text}
-use Rattle.temporal_csv.specs.TableWriter.{FitsWord, IsBetween, written_text}
-use Rattle.temporal_csv.specs.declared.cell.Cell.{Cell}
+use Rattle.temporal_csv.specs.Stored.{AreNumbered, HasStorableEnds, IsNumberedFromOne, IsStorable, IsStorableRow, StoredRow, bare_row, record_of, table_text}
+use Rattle.temporal_csv.specs.TableWriter.{FitsWord, HasWritten, IsBetween, row_in, written_text}
 
 -- a writer that lets records differ in length writes each as the default writer does
 abbrev flexible : WriterBuilder
@@ -42,10 +41,18 @@ pub row_text-flexible : (xs : List (List ℕ)) → row_text flexible xs ≡ row_
 row_text-flexible [] = rw (is_blank-flexible []) refl
 row_text-flexible (x ∷ xs) = rw (field_text-flexible x, fields_text-flexible xs, is_blank-flexible (x ∷ xs)) refl
 
+-- what a source says of the row at a place is so of that row
+pub row_is : (rows : List StoredRow) (place : ℕ) (P : StoredRow → Type 0) → place < length rows → IsSomeAnd (slice_get rows place) P
+    → P (row_in rows place)
+row_is rows place P within says =
+    subst (λ (o : Option StoredRow). IsSomeAnd o P) (slice_get-get_or rows place (bare_row []) within) says
+
 -- one more cell
-pub cells-more : (cells : List Cell) (i : ℕ) (cell : Cell) → i < length cells
-    → map term_of (take (i + 1) cells) ≡ map term_of (take i cells) ++ term_of (get_or cells i cell) ∷ []
-cells-more cells i cell lt = rw (take_more cells i cell lt, map-append term_of (take i cells) _) refl
+pub cells-more : (cells : List (TermOf (List ℕ))) (i : ℕ) (term : TermOf (List ℕ)) → slice_get cells i ≡ Some term
+    → take (i + 1) cells ≡ take i cells ++ term ∷ []
+cells-more cells i term is =
+    take_more cells i term (slice_get_within cells i term is)
+    ∙ ap (λ (t : TermOf (List ℕ)). take i cells ++ t ∷ []) (get_or_from_slice_get cells i term term is)
 
 -- the writer has written a table of this header and these rows, whose numbers and ends have texts
 pub record SoFar (header : List (List ℕ)) (rows : List StoredRow) (w : Writer (Vec ℕ Global)) : Type 0 where
@@ -64,17 +71,15 @@ so_far-none header w between text = record {
 }
 
 pub so_far-more : (header : List (List ℕ)) (rows : List StoredRow) (r : StoredRow) (v w : Writer (Vec ℕ Global))
-    → SoFar header rows v → IsBetween w
-    → written_text w ≡ written_text v ++ row_text default_writer (record_of r) → All FitsWord r.cells → HasStorableEnds r.span
-    → SoFar header (rows ++ r ∷ []) w
-so_far-more header rows r v w before between text fits ends =
+    → SoFar header rows v → HasWritten r v w → SoFar header (rows ++ r ∷ []) w
+so_far-more header rows r v w before wrote =
     let more : table_text header (rows ++ r ∷ []) ≡ table_text header rows ++ row_text default_writer (record_of r) =
     simp (map-append, flat_map-append, append-nil, append_assoc) in
     record {
-      between = between;
-      text = text ∙ rw before.text (sym more);
-      fits = All-push (λ (x : StoredRow). All FitsWord x.cells) rows r before.fits fits;
-      ends = All-push (λ (x : StoredRow). HasStorableEnds x.span) rows r before.ends ends;
+      between = wrote.between;
+      text = wrote.text ∙ rw before.text (sym more);
+      fits = All-push (λ (x : StoredRow). All FitsWord x.cells) rows r before.fits wrote.fits;
+      ends = All-push (λ (x : StoredRow). HasStorableEnds x.span) rows r before.ends wrote.ends;
     }
 
 storable-term : (t : TermOf (List ℕ)) → IsNumberedFromOne t → FitsWord t → IsStorable t

@@ -9,6 +9,7 @@ mod fault;
 mod fields;
 pub mod laws;
 mod out_row;
+mod row_source;
 mod stored;
 mod table;
 
@@ -16,5 +17,6 @@ pub use cell::{Cell, cell_text};
 pub use fact::RawFact;
 pub use fault::{TableCode, TableError, TableFault};
 pub use out_row::OutRow;
+pub use row_source::RowSource;
 pub use stored::write_table;
 pub use table::read_table;

@@ -1,6 +1,7 @@
-//! The rows of a stored table.
+//! The rows of a stored table as a list.
 
 use crate::cell::Cell;
+use crate::row_source::RowSource;
 use std::marker::Model;
 use term_core::Items;
 use time_line::Span;
@@ -20,4 +21,27 @@ impl<'a> Model for OutRow<'a> {
     ghost Value = { StoredRow };
 
     ghost view = { λ r. record { cells = map term_of r.cells; span = r.span } };
+}
+
+impl<'a> RowSource for Items<OutRow<'a>> {
+    ghost rows = { λ rows. rows };
+
+    fn count(&self) -> usize {
+        self.len()
+    }
+
+    fn width(&self, row: usize) -> usize {
+        let row = &self.as_slice()[row];
+        row.cells.len()
+    }
+
+    fn cell(&self, row: usize, column: usize, _near: &mut usize) -> Cell<'_> {
+        let row = &self.as_slice()[row];
+        row.cells.as_slice()[column]
+    }
+
+    fn span(&self, row: usize) -> Option<Span> {
+        let row = &self.as_slice()[row];
+        row.span
+    }
 }

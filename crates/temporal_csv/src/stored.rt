@@ -5,12 +5,12 @@ ghost use Rattle.csv.specs.Records.{fields_of, partial_of};
 ghost use Rattle.csv.specs.Writing.{default_writer, row_text};
 ghost use Rattle.rule_core.specs.Terms.{StampedOf, TermOf};
 ghost use Rattle.temporal_csv.specs.Cells.{term_of};
-ghost use Rattle.temporal_csv.specs.Stored.{AreNumbered, BeginsWithLetter, HasStorableEnds, IsAsWideAs, IsStorableRow, IsStored, IsStoredBare, bare_row, cell_text, end_texts, header_of, record_of, stamped_row, table_text};
-ghost use Rattle.temporal_csv.specs.TableWriter.{FitsWord, IsBetween, written_text};
+ghost use Rattle.temporal_csv.specs.Stored.{AreNumbered, BeginsWithLetter, HasStorableEnds, IsAsWideAs, IsStored, IsStoredBare, bare_row, cell_text, end_texts, header_of, stamped_row, table_text};
+ghost use Rattle.temporal_csv.specs.TableWriter.{FitsWord, HasWritten, IsBetween, row_in, written_text};
 
 use crate::cell::{Cell, append_cell};
 use crate::laws::stored_tables_are_read_back;
-use crate::out_row::OutRow;
+use crate::row_source::RowSource;
 use csv::{ByteRecord, Writer, WriterBuilder};
 use std::alloc::Global;
 use term_core::{Items, Memory, Text};
@@ -18,21 +18,21 @@ use time_line::{Side, Span, write_end};
 
 /// The bytes of a table with this header and these rows, which mean the header and the rows again, as a table with
 /// spans or as one without.
-pub fn write_table(
+pub fn write_table<R: RowSource>(
     alloc: Global,
     header: &Items<Text>,
-    rows: &Items<OutRow<'_>>,
+    rows: &R,
 ) -> Result<Items<u8>, Memory>
     requires some { 0 < length header.now }
     requires letters { All BeginsWithLetter header.now }
-    requires widths { All (IsAsWideAs header.now) rows.now }
-    requires numbers { All AreNumbered rows.now }
-    ensures text { IfOk result (λ bytes. bytes ≡ table_text header.now rows.now) }
+    requires widths { All (IsAsWideAs header.now) (R.rows rows.now) }
+    requires numbers { All AreNumbered (R.rows rows.now) }
+    ensures text { IfOk result (λ bytes. bytes ≡ table_text header.now (R.rows rows.now)) }
     ensures stored { IfOk result (λ bytes. (columns : List (List ℕ)) (table : List (StampedOf (List (TermOf (List ℕ)))))
-        → header.now ≡ header_of columns → rows.now ≡ map stamped_row table
+        → header.now ≡ header_of columns → R.rows rows.now ≡ map stamped_row table
         → IsStored bytes (header_of columns) (map stamped_row table)) }
     ensures bare { IfOk result (λ bytes. (table : List (List (TermOf (List ℕ))))
-        → rows.now ≡ map bare_row table → IsStoredBare bytes header.now (map bare_row table)) }
+        → R.rows rows.now ≡ map bare_row table → IsStoredBare bytes header.now (map bare_row table)) }
 {
     // Flexible, so that no lengths are compared again, and only memory can be wanting.
     let mut out = WriterBuilder::new()
@@ -40,18 +40,19 @@ pub fn write_table(
         .from_writer(Vec::new(alloc));
     let mut scratch = Scratch::new(alloc);
     write_header(&mut out, &mut scratch.fields, header.as_slice())?;
-    for row in rows.as_slice() {
-        write_row(&mut out, &mut scratch, row)?;
+    for row in 0..rows.count() {
+        write_row(&mut out, &mut scratch, rows, row)?;
     }
     stored_tables_are_read_back();
     finish(out)
 }
 
-// What each row uses again, so that no cell takes memory of its own.
+// What each row uses again, so that no cell takes memory of its own, and what the rows' source noted with the last cell.
 #[derive(Drop)]
 struct Scratch {
     fields: ByteRecord,
     text: String,
+    near: usize,
 }
 
 impl Scratch {
@@ -59,6 +60,7 @@ impl Scratch {
         Scratch {
             fields: ByteRecord::new(alloc),
             text: String::new(alloc),
+            near: 0,
         }
     }
 }
@@ -80,21 +82,20 @@ fn write_header(
     write_record(out, fields)
 }
 
-fn write_row(
+// Writes the row at a place.
+fn write_row<R: RowSource>(
     out: &mut Writer<Vec<u8>>,
     scratch: &mut Scratch,
-    row: &OutRow<'_>,
+    rows: &R,
+    row: usize,
 ) -> Result<(), Memory>
-    requires { IsBetween out.old }
-    ensures between { OnOk result (IsBetween out.new) }
-    ensures text { OnOk result (written_text out.new
-        ≡ written_text out.old ++ row_text default_writer (record_of row.now)) }
-    ensures fits { OnOk result (All FitsWord row.now.cells) }
-    ensures ends { OnOk result (HasStorableEnds row.now.span) }
+    requires between { IsBetween out.old }
+    requires within { row < length (R.rows rows.now) }
+    ensures { OnOk result (HasWritten (row_in (R.rows rows.now) row) out.old out.new) }
 {
     scratch.fields.clear();
-    push_cells(&mut scratch.fields, &mut scratch.text, row.cells.as_slice())?;
-    push_ends(&mut scratch.fields, &row.span)?;
+    push_cells(scratch, rows, row)?;
+    push_ends(&mut scratch.fields, &rows.span(row))?;
     write_record(out, &scratch.fields)
 }
 
@@ -111,16 +112,18 @@ fn write_record(out: &mut Writer<Vec<u8>>, fields: &ByteRecord) -> Result<(), Me
     }
 }
 
-// Adds the text of each cell.
-fn push_cells(fields: &mut ByteRecord, text: &mut String, cells: &[Cell<'_>]) -> Result<(), Memory>
-    requires { partial_of fields.old ≡ [] }
-    ensures all { OnOk result (fields_of fields.new
-        ≡ fields_of fields.old ++ map cell_text (map term_of cells.now)) }
-    ensures whole { OnOk result (partial_of fields.new ≡ []) }
-    ensures fits { OnOk result (All FitsWord (map term_of cells.now)) }
+// Adds the text of each cell of the row at a place.
+fn push_cells<R: RowSource>(scratch: &mut Scratch, rows: &R, row: usize) -> Result<(), Memory>
+    requires whole { partial_of scratch.old.fields ≡ [] }
+    requires within { row < length (R.rows rows.now) }
+    ensures all { OnOk result (fields_of scratch.new.fields
+        ≡ fields_of scratch.old.fields ++ map cell_text (row_in (R.rows rows.now) row).cells) }
+    ensures whole { OnOk result (partial_of scratch.new.fields ≡ []) }
+    ensures fits { OnOk result (All FitsWord (row_in (R.rows rows.now) row).cells) }
 {
-    for cell in cells {
-        push_cell(fields, text, cell)?;
+    for column in 0..rows.width(row) {
+        let cell = rows.cell(row, column, &mut scratch.near);
+        push_cell(&mut scratch.fields, &mut scratch.text, &cell)?;
     }
     Ok(())
 }
