@@ -1,7 +1,8 @@
 -- Lemmas on lists.
-use Rattle.std.proofs.Common.{◌≡◌, ℕ, zero, suc, ◌<◌, List, [], ◌∷◌, ◌++◌, length, get_or, slice_index_or, sym, arith, All}
+use Rattle.std.proofs.Common.{◌≡◌, ℕ, zero, suc, ◌<◌, List, [], ◌∷◌, ◌++◌, length, get_or, slice_index_or, sym, subst, arith, All, Some, slice_get}
 use Rattle.std.specs.List.{AllZip}
-use Rattle.std.proofs.lemmas.List.Elements.{All-contains, Contains-get_or, Contains-append_left, Contains-append_right}
+use Rattle.std.proofs.lemmas.List.Elements.{All-contains, All-get_or, Contains-get_or, Contains-append_left, Contains-append_right}
+use Rattle.std.proofs.lemmas.Option.{get_or_from_slice_get, slice_get_within}
 
 -- a list of four is its four elements
 pub four : {A : Type 0} (xs : List A) (a b c d : A) → length xs ≡ 4
@@ -32,6 +33,11 @@ all_zip_at R [] (y ∷ ys) all k d e within = absurd all
 all_zip_at R (x ∷ xs) [] all k d e within = absurd all
 all_zip_at R (x ∷ xs) (y ∷ ys) all zero d e within = all.0
 all_zip_at R (x ∷ xs) (y ∷ ys) all (suc k) d e within = all_zip_at R xs ys all.1 k d e (omega arith)
+
+-- what holds of all of a list holds of the one at a place
+pub all_at : {A : Type 0} (P : A → Type 0) (xs : List A) (k : ℕ) (x : A) → slice_get xs k ≡ Some x → All P xs → P x
+all_at P xs k x found all =
+    subst P (get_or_from_slice_get xs k x x found) (All-get_or P xs k x (slice_get_within xs k x found) all)
 
 -- what holds of all of a list holds of its first part, and of the part behind it
 pub All-earlier : {A : Type 0} (P : A → Type 0) (xs ys : List A) → All P (xs ++ ys) → All P xs

@@ -2,9 +2,11 @@
 use Rattle.std.proofs.Common.{◌≡◌, refl, ℕ, ◌+◌, ◌<◌, ◌≤◌, true, false, List, [], ◌∷◌, ◌++◌, map, take, subst, ◌∙◌, length, get_or, sym, ap, arith, All, AllPairs, count_by, Some, slice_get, length-append}
 use Rattle.std.specs.declared.cmp.Ordering.{Ordering}
 use Rattle.std.specs.declared.cmp.Ordering.TheVariants.{Less, Equal, Greater}
+use Rattle.std.specs.Option.{option_map}
 use Rattle.std.specs.Ordering.{is_eq, is_lt, nat_cmp}
+use Rattle.std.specs.Prelude.{IsSomeAnd, Option}
 use Rattle.std.proofs.lemmas.Bool.Decides.{nat_tests}
-use Rattle.std.proofs.lemmas.Option.{get_or_from_slice_get, slice_get_within}
+use Rattle.std.proofs.lemmas.Option.{get_or_from_slice_get, slice_get-map, slice_get_within}
 use Rattle.term_core.specs.Order.{unknown_cmp}
 use Rattle.std.specs.Cmp.{IsTotalOrder}
 use Rattle.certain_answers.proofs.RankLemmas.{count_is_point, places_cmp}
@@ -16,7 +18,7 @@ use Rattle.term_core.specs.declared.term.Term.{Term}
 use Rattle.term_core.specs.declared.term.Term.TheVariants.{Const, Null}
 use Rattle.rule_core.specs.declared.rules.Relation.{Relation}
 use Rattle.rule_core.specs.Terms.{TermOf, StampedOf}
-use Rattle.temporal_csv.specs.Stored.{stamped_row, header_of, record_of, IsAsWideAs, AreNumbered, IsNumberedFromOne}
+use Rattle.temporal_csv.specs.Stored.{StoredRow, stamped_row, header_of, record_of, IsAsWideAs, AreNumbered, IsNumberedFromOne}
 use Rattle.exchange_engine.specs.Solved.{TermTable, AreTargetTables}
 use Rattle.exchange_cli.specs.Rendering.{stored_term, stored_table}
 use Rattle.exchange_cli.specs.Target.{TargetTable, IsTableFile, AreTableFiles}
@@ -96,6 +98,24 @@ module _ (pool : List (List ℕ)) (nulls : List HeldUnknown) where
   -- a row as it is stored
   abbrev pub stored_entry : StampedOf (List Term) → StampedOf (List (TermOf (List ℕ)))
   stored_entry e = record { row = map (stored_term pool nulls) e.row; span = e.span }
+
+  module _ (table : TermTable) (k : ℕ) where
+    -- the row at a place is the entry's there
+    stored_at : (e : StampedOf (List Term)) → slice_get table k ≡ Some e
+        → slice_get (map stamped_row (stored_table pool nulls table)) k ≡ Some (stamped_row (stored_entry e))
+    stored_at e found =
+        slice_get-map stamped_row (stored_table pool nulls table) k
+        ∙ ap (option_map stamped_row) (slice_get-map stored_entry table k ∙ ap (option_map stored_entry) found)
+
+    -- what is said of the row at a place is so of the entry's there
+    pub said_of_row : (e : StampedOf (List Term)) (P : StoredRow → Type 0) → slice_get table k ≡ Some e
+        → IsSomeAnd (slice_get (map stamped_row (stored_table pool nulls table)) k) P → P (stamped_row (stored_entry e))
+    said_of_row e P found says = subst (λ (o : Option StoredRow). IsSomeAnd o P) (stored_at e found) says
+
+    -- and what is so of the entry's row is said of the one at its place
+    pub say_of_row : (e : StampedOf (List Term)) (P : StoredRow → Type 0) → slice_get table k ≡ Some e
+        → P (stamped_row (stored_entry e)) → IsSomeAnd (slice_get (map stamped_row (stored_table pool nulls table)) k) P
+    say_of_row e P found is = subst (λ (o : Option StoredRow). IsSomeAnd o P) (sym (stored_at e found)) is
 
   -- rows that are as wide as their relation make records that are as wide as the header
   pub widths_are : (relation : Relation) (table : TermTable) → AreWide relation table

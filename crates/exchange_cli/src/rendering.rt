@@ -1,6 +1,6 @@
 //! A target as files: each constant as its text, and each unknown by its number among those of the target.
 
-ghost use Rattle.std.specs.Prelude.{◌≡◌, ◌+◌, ◌<◌, ◌≤◌, All, AllPairs, IfOk, IsTrue, length, map};
+ghost use Rattle.std.specs.Prelude.{◌≡◌, ◌+◌, ◌<◌, ◌≤◌, All, AllPairs, IfOk, IsTrue, Some, length, map, slice_get};
 ghost use Rattle.std.specs.declared.cmp.Ordering.TheVariants.{Less};
 ghost use Rattle.term_core.specs.Order.{unknown_cmp};
 ghost use Rattle.temporal_csv.specs.Cells.{term_of};
@@ -15,9 +15,11 @@ use crate::storing::{answer_file, table_file, verdict};
 use coalescer::Stamped;
 use exchange_engine::{Loaded, Solved};
 use std::alloc::Global;
-use temporal_csv::{Cell, OutRow};
+use std::marker::Model;
+use temporal_csv::{Cell, RowSource};
 use term_core::laws::unknowns_have_one_order;
 use term_core::{Items, Memory, Pool, Term, Unknown};
+use time_line::Span;
 
 /// The files of a target, in the order in which they are stored: a table for each relation, the answers of each query, and then
 /// the verdict.
@@ -61,7 +63,7 @@ fn answer_files(
     let answers = solved.answers.as_slice();
     let mut files = Items::new(alloc);
     for (place, list) in answers.iter().enumerate() {
-        let rows = stored_rows(alloc, &loaded.pool, nulls, list.as_slice())?;
+        let rows = TableRows::new(&loaded.pool, nulls, list.as_slice());
         files.push(answer_file(alloc, target, &queries[place], &rows)?)?;
     }
     Ok(files)
@@ -86,33 +88,81 @@ fn table_files(
     let tables = solved.tables.as_slice();
     let mut files = Items::new(alloc);
     for (place, table) in tables.iter().enumerate() {
-        let rows = stored_rows(alloc, &loaded.pool, nulls, table.as_slice())?;
+        let rows = TableRows::new(&loaded.pool, nulls, table.as_slice());
         files.push(table_file(alloc, target, &relations[place], &rows)?)?;
     }
     Ok(files)
 }
 
-// The rows of a table as they are stored.
-fn stored_rows<'a>(
-    alloc: Global,
+// The rows of a table as they are stored, of which a cell is made when it is asked for. The constants of the table are of
+// the pool, and the unknowns ascend.
+#[derive(Drop)]
+struct TableRows<'a> {
     pool: &'a Pool,
-    nulls: &[Unknown],
-    table: &[Stamped],
-) -> Result<Items<OutRow<'a>>, Memory>
-    requires within { All (λ e. All (IsTermWithin (length pool.now)) e.row) table.now }
-    requires ascending { AllPairs (λ u w. unknown_cmp u w ≡ Less) nulls.now }
-    ensures { IfOk result (λ rows.
-        rows ≡ map stamped_row (stored_table pool.now nulls.now table.now)) }
-{
-    let mut rows = Items::new(alloc);
-    rows.room(table.len())?;
-    let mut near = 0;
-    for entry in table {
-        let cells = stored_cells(alloc, pool, nulls, &mut near, entry.row.as_slice())?;
-        let span = Some(entry.span);
-        rows.push(OutRow { cells, span })?;
+    nulls: &'a [Unknown],
+    table: &'a [Stamped],
+}
+
+impl<'a> Model for TableRows<'a> {
+    ghost use Rattle.std.specs.Prelude.{List, map};
+    ghost use Rattle.temporal_csv.specs.Stored.{StoredRow, stamped_row};
+    ghost use Rattle.exchange_cli.specs.Rendering.{IsRenderable, stored_table};
+
+    ghost Value = { List StoredRow };
+
+    ghost view = { λ t. map stamped_row (stored_table t.pool.now t.nulls.now t.table.now) };
+
+    ghost invariant = { λ t. IsRenderable t.pool.now t.nulls.now t.table.now };
+}
+
+impl<'a> TableRows<'a> {
+    // The rows of a table, with the texts of a pool and the numbers of the unknowns among these.
+    fn new(pool: &'a Pool, nulls: &'a [Unknown], table: &'a [Stamped]) -> Self
+        requires within { All (λ e. All (IsTermWithin (length pool.now)) e.row) table.now }
+        requires ascending { AllPairs (λ u w. unknown_cmp u w ≡ Less) nulls.now }
+        ensures { result ≡ map stamped_row (stored_table pool.now nulls.now table.now) }
+    {
+        TableRows { pool, nulls, table }
     }
-    Ok(rows)
+}
+
+impl<'a> RowSource for TableRows<'a> {
+    ghost rows = { λ rows. rows };
+
+    fn count(&self) -> usize {
+        self.table.len()
+    }
+
+    fn width(&self, row: usize) -> usize {
+        let entry = entry_at(self.table, row);
+        entry.row.len()
+    }
+
+    fn cell(&self, row: usize, column: usize, near: &mut usize) -> Cell<'_> {
+        let entry = entry_at(self.table, row);
+        stored_cell(self.pool, self.nulls, near, term_at(entry, column))
+    }
+
+    fn span(&self, row: usize) -> Option<Span> {
+        let entry = entry_at(self.table, row);
+        Some(entry.span)
+    }
+}
+
+// The entry of a table at a place.
+fn entry_at(table: &[Stamped], row: usize) -> &Stamped
+    requires { row < length table.now }
+    ensures { slice_get table.now row ≡ Some result.now }
+{
+    &table[row]
+}
+
+// The term of an entry in a column.
+fn term_at(entry: &Stamped, column: usize) -> &Term
+    requires { column < length entry.now.row }
+    ensures { slice_get entry.now.row column ≡ Some result.now }
+{
+    &entry.row.as_slice()[column]
 }
 
 /// The cells of a row as they are stored. Unknowns are looked for near a place first, which is that of the last one then.

@@ -14,21 +14,21 @@ use crate::file_names::{name_answers, name_table, name_verdict};
 use rule_core::{Query, Relation};
 use shelf_core::Bytes;
 use std::alloc::Global;
-use temporal_csv::{OutRow, write_table};
+use temporal_csv::{RowSource, write_table};
 use term_core::{Items, Memory, Text};
 
 /// The file of a target table with these rows.
-pub fn table_file(
+pub fn table_file<R: RowSource>(
     alloc: Global,
     target: &str,
     relation: &Relation,
-    rows: &Items<OutRow<'_>>,
+    rows: &R,
 ) -> Result<FileOut, Memory>
     requires valid { IsRelation relation.now }
-    requires widths { All (IsAsWideAs (header_of relation.now.columns)) rows.now }
-    requires numbers { All AreNumbered rows.now }
+    requires widths { All (IsAsWideAs (header_of relation.now.columns)) (R.rows rows.now) }
+    requires numbers { All AreNumbered (R.rows rows.now) }
     ensures { IfOk result (λ file. (table : TargetTable)
-        → rows.now ≡ map stamped_row table → IsTableFile target.now relation.now file table) }
+        → R.rows rows.now ≡ map stamped_row table → IsTableFile target.now relation.now file table) }
 {
     let header = header_texts(alloc, &relation.columns)?;
     let bytes = write_table(alloc, &header, rows)?;
@@ -39,16 +39,16 @@ pub fn table_file(
 }
 
 /// The file of the answers of a query, with these rows.
-pub fn answer_file(
+pub fn answer_file<R: RowSource>(
     alloc: Global,
     target: &str,
     query: &Query,
-    rows: &Items<OutRow<'_>>,
+    rows: &R,
 ) -> Result<FileOut, Memory>
     requires names { All IsName query.now.head }
-    requires widths { All (IsAsWideAs (header_of query.now.head)) rows.now }
-    requires numbers { All AreNumbered rows.now }
-    ensures { IfOk result (λ file. (table : TargetTable) → rows.now ≡ map stamped_row table
+    requires widths { All (IsAsWideAs (header_of query.now.head)) (R.rows rows.now) }
+    requires numbers { All AreNumbered (R.rows rows.now) }
+    ensures { IfOk result (λ file. (table : TargetTable) → R.rows rows.now ≡ map stamped_row table
         → IsTableFile target.now (answer_relation query.now) file table) }
 {
     let header = header_texts(alloc, &query.head)?;

@@ -68,11 +68,11 @@ answer_file-requires-clause-widths c =
     let wide : AreWide (answer_relation query) list =
     wide_at (map answer_relation queries) answers c.requires.answers c.loop-place.place (answer_relation query) list within relation_is
     table_is in
-    rw (c.in_ok-rows.ensures, c.as_slice.ensures) (widths_are c.loaded.inside.pool c.as_slice-nulls.result.now (answer_relation query) list wide)
+    rw (c.new-rows.ensures, c.as_slice.ensures) (widths_are c.loaded.inside.pool c.as_slice-nulls.result.now (answer_relation query) list wide)
 
 pub answer_file-requires-clause-numbers : goal.answer_file-requires-clause-numbers
 answer_file-requires-clause-numbers c =
-    rw c.in_ok-rows.ensures (numbers_are c.loaded.inside.pool c.as_slice-nulls.result.now c.as_slice.result.now)
+    rw c.new-rows.ensures (numbers_are c.loaded.inside.pool c.as_slice-nulls.result.now c.as_slice.result.now)
 
 pub loop-place-preserved : goal.loop-place-preserved
 loop-place-preserved c =
@@ -91,8 +91,8 @@ loop-place-preserved c =
     (relation_at relations answers c.requires.answers place within) in
     let relation_is = relation_read queries c.as_slice-queries.result.now place query are inside c.index-queries-place.is in
     let table_is = rw c.as_slice-answers.ensures at c.index-answers-place.is in
-    let rows_are : c.in_ok-rows.rows ≡ map stamped_row (stored list) =
-    c.in_ok-rows.ensures
+    let rows_are : c.new-rows.result ≡ map stamped_row (stored list) =
+    c.new-rows.ensures
     ∙ (λ i. map stamped_row (stored_table (c.loaded.view_is i).pool (c.as_slice-nulls.ensures i) (c.as_slice.ensures i))) in
     let one : IsTableFile target (answer_relation query) file (stored list) = c.in_ok-answer_file.ensures (stored list) rows_are in
     let before : AreTableFiles target (take place relations) c.loop-place.files (map stored (take place answers)) =

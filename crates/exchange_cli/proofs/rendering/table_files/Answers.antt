@@ -37,11 +37,11 @@ table_file-requires-clause-widths c =
     let table_is = rw c.as_slice-tables.ensures at c.index-tables-place.is in
     let wide : AreWide relation table =
     wide_at targets tables c.requires.tables c.loop-place.place relation table within relation_is table_is in
-    rw (c.in_ok-rows.ensures, c.as_slice.ensures) (widths_are c.loaded.inside.pool c.as_slice-nulls.result.now relation table wide)
+    rw (c.new-rows.ensures, c.as_slice.ensures) (widths_are c.loaded.inside.pool c.as_slice-nulls.result.now relation table wide)
 
 pub table_file-requires-clause-numbers : goal.table_file-requires-clause-numbers
 table_file-requires-clause-numbers c =
-    rw c.in_ok-rows.ensures (numbers_are c.loaded.inside.pool c.as_slice-nulls.result.now c.as_slice.result.now)
+    rw c.new-rows.ensures (numbers_are c.loaded.inside.pool c.as_slice-nulls.result.now c.as_slice.result.now)
 
 pub loop-place-preserved : goal.loop-place-preserved
 loop-place-preserved c =
@@ -56,8 +56,8 @@ loop-place-preserved c =
     let within = rw c.as_slice-tables.ensures at c.loop-place-test.true in
     let relation_is = rw are at c.index-relations-place.is in
     let table_is = rw c.as_slice-tables.ensures at c.index-tables-place.is in
-    let rows_are : c.in_ok-rows.rows ≡ map stamped_row (stored table) =
-    c.in_ok-rows.ensures
+    let rows_are : c.new-rows.result ≡ map stamped_row (stored table) =
+    c.new-rows.ensures
     ∙ (λ i. map stamped_row (stored_table (c.loaded.view_is i).pool (c.as_slice-nulls.ensures i) (c.as_slice.ensures i))) in
     let one : IsTableFile target relation file (stored table) = c.in_ok-table_file.ensures (stored table) rows_are in
     rw (c.in_ok-push.ensures.ok, are, c.as_slice-tables.ensures)

@@ -5,14 +5,14 @@ use Rattle.exchange_cli.proofs.StoringLemmas.{header_some, letters_are}
 use Rattle.exchange_cli.proofs.storing.answer_file.Goals as goal
 
 pub write_table-requires-clause-some : goal.write_table-requires-clause-some
-write_table-requires-clause-some c = rw c.in_ok-header.ensures (header_some c.args.query.now.head)
+write_table-requires-clause-some g c = rw c.in_ok-header.ensures (header_some c.args.query.now.head)
 
 pub write_table-requires-clause-letters : goal.write_table-requires-clause-letters
-write_table-requires-clause-letters c =
+write_table-requires-clause-letters g c =
     rw c.in_ok-header.ensures (letters_are c.args.query.now.head c.requires.names)
 
 pub returns : goal.returns
-returns c table is =
+returns g c table is =
     let columns = c.args.query.now.head in
     let bytes = c.from_vec.ensures ∙ c.into_vec.ensures in
     record {

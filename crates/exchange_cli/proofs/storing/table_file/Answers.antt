@@ -5,14 +5,14 @@ use Rattle.exchange_cli.proofs.StoringLemmas.{header_some, letters_are}
 use Rattle.exchange_cli.proofs.storing.table_file.Goals as goal
 
 pub write_table-requires-clause-some : goal.write_table-requires-clause-some
-write_table-requires-clause-some c = rw c.in_ok-header.ensures (header_some c.args.relation.now.columns)
+write_table-requires-clause-some g c = rw c.in_ok-header.ensures (header_some c.args.relation.now.columns)
 
 pub write_table-requires-clause-letters : goal.write_table-requires-clause-letters
-write_table-requires-clause-letters c =
+write_table-requires-clause-letters g c =
     rw c.in_ok-header.ensures (letters_are c.args.relation.now.columns c.requires.valid.columns)
 
 pub returns : goal.returns
-returns c table is =
+returns g c table is =
     let columns = c.args.relation.now.columns in
     let bytes = c.from_vec.ensures ∙ c.into_vec.ensures in
     record {
