@@ -1,10 +1,10 @@
 -- Texts and facts, gathered one after another.
-use Rattle.std.proofs.Common.{◌≡◌, ◌↔◌, ◌⊎◌, inl, inr, ℕ, ◌+◌, ◌≤◌, List, [], ◌∷◌, ◌++◌, Some, length, take, sum_by, sym, ap, ◌∙◌, subst, arith, All, Any, Contains}
+use Rattle.std.proofs.Common.{◌≡◌, ◌↔◌, ◌⊎◌, inl, inr, ℕ, ◌+◌, ◌<◌, ◌≤◌, List, [], ◌∷◌, ◌++◌, Some, length, take, sum_by, sym, ap, ◌∙◌, subst, arith, All, Any, Contains}
 use Rattle.std.specs.Prelude.{slice_get, IsPermutation}
-use Rattle.std.proofs.lemmas.List.{take_more, take_all, length-append, length-map, map-append}
+use Rattle.std.proofs.lemmas.List.{take_more, take_all, length-append, length-map, length-take, get_or-take, map-append}
 use Rattle.std.proofs.lemmas.List.Sorted.{Contains-permutation, IsPermutation-sym, length_permutation}
 use Rattle.std.proofs.lemmas.List.Sums.{sum_by_push}
-use Rattle.std.proofs.lemmas.List.Elements.{All-get_or, Contains-append_left, Contains-push, Contains-push_cases}
+use Rattle.std.proofs.lemmas.List.Elements.{All-get_or, Contains-get_or, Contains-append_left, Contains-push, Contains-push_cases}
 use Rattle.std.proofs.lemmas.List.Quantifiers.{Any-push}
 use Rattle.std.proofs.lemmas.Option.{slice_get_within, slice_get-map, get_or_from_slice_get}
 use Rattle.std.specs.Option.{option_map}
@@ -31,6 +31,21 @@ Gains-one texts text = record {
   );
   few = omega (arith, length-append texts (text ∷ []));
 }
+
+-- a text that is there is added again
+pub Gains-there : (texts : List (List ℕ)) (text : List ℕ) → Contains texts text → Gains texts texts (λ t. t ≡ text) 1
+Gains-there texts text there = record {
+  texts = λ t. (λ c. inl c, λ h. elim h [ inl c ↦ c | inr same ↦ subst (Contains texts) (sym same) there ]);
+  few = omega arith;
+}
+
+-- a text that stands before a place
+pub stands_before : (texts : List (List ℕ)) (place at : ℕ) (text : List ℕ) → slice_get texts at ≡ Some text → at < place
+    → Contains (take place texts) text
+stands_before texts place at text here before =
+    let within = slice_get_within texts at text here in
+    subst (Contains (take place texts)) (get_or-take place texts at text before ∙ get_or_from_slice_get texts at text text here)
+    (Contains-get_or (take place texts) at text (omega (arith, length-take place texts, within, before)))
 
 -- the text at the place of what was found
 pub text_found : (found : List Found) (i : ℕ) (one : Found) → slice_get found i ≡ Some one → slice_get (texts_of found) i ≡ Some one.text.now
@@ -139,40 +154,39 @@ pub Gains-elements : {X : Type 0} (old new : List (List ℕ)) (P : X → List �
 Gains-elements old new P size xs i end h =
     subst (λ front. Gains old new (λ t. Any (λ y. P y t) front) (sum_by size front)) (take_all i xs end) h
 
--- the pool of what is found in one list, and then in another
-pub pool_has : (start mid found moved : List Found) (empty new pool : List (List ℕ)) (P Q : List ℕ → Type 0) (m n k : ℕ) → start ≡ []
-    → Gains (texts_of start) (texts_of mid) P m → Gains (texts_of mid) (texts_of found) Q n → IsPermutation found moved → empty ≡ []
+-- the pool of what is gathered from one list, and then from another
+pub pool_has : (start mid all : List (List ℕ)) (found moved : List Found) (empty new pool : List (List ℕ)) (P Q : List ℕ → Type 0) (m n k : ℕ)
+    → start ≡ [] → Gains start mid P m → Gains mid all Q n → texts_of found ≡ all → IsPermutation found moved → empty ≡ []
     → Gains empty new (Contains (texts_of moved)) k → ((text : List ℕ) → Contains pool text ↔ Contains new text)
     → (text : List ℕ) → Contains pool text ↔ (P text ⊎ Q text)
-pool_has start mid found moved empty new pool P Q m n k none first second order nothing all same text =
-    let its = Gains-moved empty new found moved k order all in (
+pool_has start mid all found moved empty new pool P Q m n k none first second is_all order nothing added same text =
+    let its = Gains-moved empty new found moved k order added in (
       λ c. elim ((its.texts text).0 ((same text).0 c)) [
         | inl o ↦ absurd (Contains-nil text (subst (λ l. Contains l text) nothing o))
-        | inr f ↦ elim ((second.texts text).0 f) [
+        | inr f ↦ elim ((second.texts text).0 (subst (λ l. Contains l text) is_all f)) [
           | inl before ↦ elim ((first.texts text).0 before) [
-            | inl o ↦ absurd (Contains-nil text (subst (λ l. Contains (texts_of l) text) none o))
+            | inl o ↦ absurd (Contains-nil text (subst (λ l. Contains l text) none o))
             | inr p ↦ inl p
           ]
           | inr q ↦ inr q
         ]
       ],
-      λ h. (same text).1 ((its.texts text).1 (inr (elim h [
+      λ h. (same text).1 ((its.texts text).1 (inr (subst (λ l. Contains l text) (sym is_all) (elim h [
         | inl p ↦ (second.texts text).1 (inl ((first.texts text).1 (inr p)))
         | inr q ↦ (second.texts text).1 (inr q)
-      ]))),
+      ])))),
     )
 
--- so many texts are found at most
-pub few_found : (start mid found moved : List Found) (P Q : List ℕ → Type 0) (m n : ℕ) → start ≡ []
-    → Gains (texts_of start) (texts_of mid) P m → Gains (texts_of mid) (texts_of found) Q n → IsPermutation found moved
-    → length moved ≤ m + n
-few_found start mid found moved P Q m n none first second order =
+-- so many texts are gathered at most
+pub few_found : (start mid all : List (List ℕ)) (found moved : List Found) (P Q : List ℕ → Type 0) (m n : ℕ) → start ≡ []
+    → Gains start mid P m → Gains mid all Q n → texts_of found ≡ all → IsPermutation found moved → length moved ≤ m + n
+few_found start mid all found moved P Q m n none first second is_all order =
     omega (
       arith,
       first.few,
       second.few,
-      length-map start (λ (f : Found). f.text.now),
       ap length none,
+      ap length is_all,
       length-map found (λ (f : Found). f.text.now),
       length_permutation found moved order,
     )

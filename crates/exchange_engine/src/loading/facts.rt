@@ -7,7 +7,7 @@ ghost use Rattle.rule_core.specs.Tables.{facts_of, as_terms};
 ghost use Rattle.exchange_engine.specs.Gathered.{Adds, raw_fact, raw_facts};
 ghost use Rattle.exchange_engine.specs.Loading.{as_text, text_in};
 
-use crate::loading::front::{Front, first_word};
+use crate::loading::front::{Front, SEATS, first_word, seat_of};
 use fact_table::Fact;
 use std::alloc::Global;
 use temporal_csv::RawFact;
@@ -25,10 +25,40 @@ pub fn numbered_facts(
     ensures { IfOk result (λ facts. Adds pool.now [] facts (facts_of (map as_terms tables.now))) }
 {
     let mut facts = Items::new(alloc);
+    let mut near = Near::new(alloc)?;
     for (relation, table) in tables.iter().enumerate() {
-        add_table(alloc, pool, relation as u32, table.as_slice(), &mut facts)?;
+        let table = table.as_slice();
+        add_table(alloc, pool, relation as u32, table, &mut near, &mut facts)?;
     }
     Ok(facts)
+}
+
+// Where numbers are looked for first: at that of the last row's first text, and at the last one of each seat.
+#[derive(Drop)]
+struct Near {
+    first: ConstId,
+    lately: Vec<ConstId>,
+}
+
+impl Near {
+    fn new(alloc: Global) -> Result<Near, Memory> {
+        Ok(Near {
+            first: ConstId(0),
+            lately: vec![in alloc; ConstId(0); SEATS]?,
+        })
+    }
+
+    // The number that had a seat last.
+    fn last_at(&self, seat: usize) -> ConstId {
+        self.lately.get(seat).copied().unwrap_or(ConstId(0))
+    }
+
+    // Gives a seat to a number.
+    fn take_seat(&mut self, seat: usize, id: ConstId) {
+        if let Some(last) = self.lately.get_mut(seat) {
+            *last = id;
+        }
+    }
 }
 
 // Adds the facts of a table.
@@ -37,6 +67,7 @@ fn add_table(
     pool: &Pool,
     relation: u32,
     table: &[RawFact],
+    near: &mut Near,
     facts: &mut Items<Fact>,
 ) -> Result<(), Memory>
     requires { All (λ raw. All (Contains pool.now) raw.row) table.now }
@@ -44,10 +75,9 @@ fn add_table(
 {
     facts.room(table.len())?;
     let heads = heads_in_order(alloc, table)?;
-    let mut near = ConstId(0);
     for head in &heads {
         let fact = fact_at(alloc, pool, relation, table, head.at, near)?;
-        near = first_of(&fact);
+        near.first = first_of(&fact);
         facts.push(fact)?;
     }
     Ok(())
@@ -106,7 +136,7 @@ fn fact_at(
     relation: u32,
     table: &[RawFact],
     at: usize,
-    near: ConstId,
+    near: &mut Near,
 ) -> Result<Fact, Memory>
     requires within { at < length table.now }
     requires there { All (λ raw. All (Contains pool.now) raw.row) table.now }
@@ -123,7 +153,7 @@ fn numbered_fact(
     pool: &Pool,
     relation: u32,
     raw: &RawFact,
-    near: ConstId,
+    near: &mut Near,
 ) -> Result<Fact, Memory>
     requires { All (Contains pool.now) raw.now.row }
     ensures reads { IfOk result (λ fact. as_text pool.now fact ≡ raw_fact relation raw.now) }
@@ -146,7 +176,7 @@ fn numbers_of(
     alloc: Global,
     pool: &Pool,
     cells: &[Text],
-    near: ConstId,
+    near: &mut Near,
 ) -> Result<Items<ConstId>, Memory>
     requires { All (Contains pool.now) cells.now }
     ensures reads { IfOk result (λ ids. map (text_in pool.now) ids ≡ cells.now) }
@@ -160,20 +190,37 @@ fn numbers_of(
     Ok(ids)
 }
 
-// The number of a text that the pool has, which may be this one or the next.
-fn number_near(pool: &Pool, near: ConstId, text: &str) -> ConstId
+// The number of a text that the pool has, which may be that of the last row's first text, or the next.
+fn number_near(pool: &Pool, near: &mut Near, text: &str) -> ConstId
     requires { Contains pool.now text.now }
     ensures reads { text_in pool.now result ≡ text.now }
     ensures within { result.0 < length pool.now }
 {
-    if is_text(pool, near, text) {
-        return near;
+    let first = near.first;
+    if is_text(pool, first, text) {
+        return first;
     }
-    let next = ConstId(near.0.saturating_add(1));
+    let next = ConstId(first.0.saturating_add(1));
     if is_text(pool, next, text) {
         return next;
     }
-    number_of(pool, text)
+    number_seated(pool, near, text)
+}
+
+// The number of a text that the pool has, which may be the last one of its seat.
+fn number_seated(pool: &Pool, near: &mut Near, text: &str) -> ConstId
+    requires { Contains pool.now text.now }
+    ensures reads { text_in pool.now result ≡ text.now }
+    ensures within { result.0 < length pool.now }
+{
+    let seat = seat_of(text);
+    let last = near.last_at(seat);
+    if is_text(pool, last, text) {
+        return last;
+    }
+    let id = number_of(pool, text);
+    near.take_seat(seat, id);
+    id
 }
 
 // Whether the pool has the text under a number.

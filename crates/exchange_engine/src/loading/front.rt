@@ -21,6 +21,20 @@ impl Front {
             length: bytes.len(),
         }
     }
+
+    /// The seat of texts that begin so, which is below `SEATS`.
+    pub fn seat(&self) -> usize {
+        let mixed = (self.first ^ self.second.rotate_left(32)).wrapping_mul(0x9E37_79B9_7F4A_7C15);
+        (mixed >> 54) as usize
+    }
+}
+
+/// How many seats there are for texts.
+pub const SEATS: usize = 1024;
+
+/// The seat of a text, which those of one beginning share. No clause rests on it.
+pub fn seat_of(text: &str) -> usize {
+    Front::of(text).seat()
 }
 
 /// The first eight bytes of a text as a number.

@@ -1,11 +1,12 @@
 //! One pool for the texts of a mapping and of its tables.
 
-ghost use Rattle.std.specs.Prelude.{◌↔◌, ◌⊎◌, ◌+◌, ◌<◌, ◌-◌, ◌^◌, ℕ, List, Any, Contains, IfOk, OnOk, ◌≡◌, length, sum_by};
+ghost use Rattle.std.specs.Prelude.{◌≡◌, ◌↔◌, ◌⊎◌, ◌+◌, ◌<◌, ◌-◌, ◌^◌, [], ℕ, List, Any, Contains, Some, IsTrue, IfOk, OnOk, length, slice_get, sum_by, take};
 ghost use Rattle.exchange_engine.specs.Gathered.{Gains, texts_of};
 ghost use Rattle.exchange_engine.specs.Loading.{HasText, cell_count};
 
-use crate::loading::front::Front;
+use crate::loading::front::{Front, SEATS};
 use std::alloc::Global;
+use std::marker::Model;
 use temporal_csv::RawFact;
 use term_core::{ConstId, Items, Memory, Pool, PoolBuilder, Text};
 
@@ -16,9 +17,10 @@ pub fn pool_of(alloc: Global, texts: &Pool, tables: &[Items<RawFact>]) -> Result
     ensures { IfOk result (λ pool. (text : List ℕ)
         → Contains pool text ↔ (Contains texts.now text ⊎ HasText tables.now text)) }
 {
-    let mut found = Vec::new(alloc);
-    add_texts(&mut found, texts)?;
-    add_tables(&mut found, tables)?;
+    let mut gathered = Gathered::new(alloc)?;
+    add_texts(&mut gathered, texts)?;
+    add_tables(&mut gathered, tables)?;
+    let mut found = gathered.into_found();
     found.sort_unstable_by_key(|one| one.front);
     let mut builder = PoolBuilder::new(alloc);
     add_found(&mut builder, &found)?;
@@ -43,61 +45,152 @@ impl<'a> Found<'a> {
     }
 }
 
+// Texts that were found. Tables repeat few texts over and over, so each text has a seat, and one that was the last to take
+// its seat is not added again.
+#[derive(Drop)]
+struct Gathered<'a> {
+    found: Vec<Found<'a>>,
+    seats: Vec<usize>,
+}
+
+impl<'a> Model for Gathered<'a> {
+    ghost use Rattle.std.specs.Prelude.{List, ℕ};
+    ghost use Rattle.exchange_engine.specs.Gathered.{texts_of};
+
+    ghost Value = { List (List ℕ) };
+
+    ghost view = { λ g. texts_of g.found.items };
+}
+
+impl<'a> Gathered<'a> {
+    // No text yet.
+    fn new(alloc: Global) -> Result<Gathered<'a>, Memory>
+        ensures { IfOk result (λ gathered. gathered ≡ []) }
+    {
+        Ok(Gathered {
+            found: Vec::new(alloc),
+            seats: vec![in alloc; 0; SEATS]?,
+        })
+    }
+
+    // Adds a text, where it is not known to be there.
+    fn add(&mut self, text: &'a str) -> Result<(), Memory>
+        ensures { OnOk result (Gains self.old self.new (λ t. t ≡ text.now) 1) }
+    {
+        let one = Found::new(text);
+        let seat = one.front.seat();
+        if self.has_seat(seat, text) {
+            return Ok(());
+        }
+        self.take_seat(seat);
+        self.found.push(one)?;
+        Ok(())
+    }
+
+    // Whether the text is the last one that took the seat.
+    fn has_seat(&self, seat: usize, text: &str) -> bool
+        ensures { IsTrue result → Contains self.now text.now }
+    {
+        let Some(place) = self.seats.get(seat) else {
+            return false;
+        };
+        is_at(self.found.as_slice(), *place, text)
+    }
+
+    // Gives a seat to the text that is found next.
+    fn take_seat(&mut self, seat: usize)
+        ensures { self.new ≡ self.old }
+    {
+        let next = self.found.len();
+        if let Some(place) = self.seats.get_mut(seat) {
+            *place = next;
+        }
+    }
+
+    // The texts, each with how it begins.
+    fn into_found(self) -> Vec<Found<'a>>
+        ensures { texts_of result.items ≡ self.entry }
+    {
+        let Gathered { found, seats: _ } = self;
+        found
+    }
+}
+
 // Adds texts to a pool.
 fn add_found(builder: &mut PoolBuilder, found: &[Found<'_>]) -> Result<(), Memory>
     requires { length builder.old + length found.now < 2 ^ 32 - 1 }
     ensures { OnOk result (Gains builder.old builder.new
         (Contains (texts_of found.now)) (length found.now)) }
 {
-    for one in found {
+    for (place, one) in found.iter().enumerate() {
         let text = one.text;
+        if was_last(found, place, text) {
+            continue;
+        }
         builder.add(text)?;
     }
     Ok(())
 }
 
+// Whether a text stands right before a place.
+fn was_last(found: &[Found<'_>], place: usize, text: &str) -> bool
+    ensures { IsTrue result → Contains (take place (texts_of found.now)) text.now }
+{
+    0 < place && is_at(found, place - 1, text)
+}
+
+// Whether a text stands at a place.
+fn is_at(found: &[Found<'_>], place: usize, text: &str) -> bool
+    ensures { IsTrue result → slice_get (texts_of found.now) place ≡ Some text.now }
+{
+    match found.get(place) {
+        Some(one) => one.text == text,
+        None => false,
+    }
+}
+
 // Adds all texts of a pool.
-fn add_texts<'a>(found: &mut Vec<Found<'a>>, texts: &'a Pool) -> Result<(), Memory>
-    ensures { OnOk result (Gains (texts_of found.old.items) (texts_of found.new.items)
+fn add_texts<'a>(gathered: &mut Gathered<'a>, texts: &'a Pool) -> Result<(), Memory>
+    ensures { OnOk result (Gains gathered.old gathered.new
         (Contains texts.now) (length texts.now)) }
 {
     let count = texts.len() as u32;
     for at in 0..count {
-        found.push(Found::new(texts.text(ConstId(at))))?;
+        gathered.add(texts.text(ConstId(at)))?;
     }
     Ok(())
 }
 
 // Adds all cells of tables.
-fn add_tables<'a>(found: &mut Vec<Found<'a>>, tables: &'a [Items<RawFact>]) -> Result<(), Memory>
-    ensures { OnOk result (Gains (texts_of found.old.items) (texts_of found.new.items)
+fn add_tables<'a>(gathered: &mut Gathered<'a>, tables: &'a [Items<RawFact>]) -> Result<(), Memory>
+    ensures { OnOk result (Gains gathered.old gathered.new
         (HasText tables.now) (cell_count tables.now)) }
 {
     for table in tables {
-        add_rows(found, table.as_slice())?;
+        add_rows(gathered, table.as_slice())?;
     }
     Ok(())
 }
 
 // Adds all cells of a table.
-fn add_rows<'a>(found: &mut Vec<Found<'a>>, table: &'a [RawFact]) -> Result<(), Memory>
-    ensures { OnOk result (Gains (texts_of found.old.items) (texts_of found.new.items)
+fn add_rows<'a>(gathered: &mut Gathered<'a>, table: &'a [RawFact]) -> Result<(), Memory>
+    ensures { OnOk result (Gains gathered.old gathered.new
         (λ text. Any (λ fact. Contains fact.row text) table.now)
         (sum_by (λ fact. length fact.row) table.now)) }
 {
     for fact in table {
-        add_cells(found, fact.cells.as_slice())?;
+        add_cells(gathered, fact.cells.as_slice())?;
     }
     Ok(())
 }
 
 // Adds all cells of a row.
-fn add_cells<'a>(found: &mut Vec<Found<'a>>, cells: &'a [Text]) -> Result<(), Memory>
-    ensures { OnOk result (Gains (texts_of found.old.items) (texts_of found.new.items)
+fn add_cells<'a>(gathered: &mut Gathered<'a>, cells: &'a [Text]) -> Result<(), Memory>
+    ensures { OnOk result (Gains gathered.old gathered.new
         (Contains cells.now) (length cells.now)) }
 {
     for cell in cells {
-        found.push(Found::new(cell.as_str()))?;
+        gathered.add(cell.as_str())?;
     }
     Ok(())
 }

@@ -3,5 +3,5 @@ use Rattle.std.proofs.Common.{take, Contains}
 use Rattle.exchange_engine.specs.Gathered.{Gains, texts_of}
 use Rattle.exchange_engine.proofs.loading.pool.add_found.Given as goal
 
-abbrev pub invariant-loop-one : goal.invariant-loop-one
-invariant-loop-one l = Gains l.fn.builder l.builder (Contains (take l.one-index (texts_of l.found))) l.one-index
+abbrev pub invariant-loop-place : goal.invariant-loop-place
+invariant-loop-place l = Gains l.fn.builder l.builder (Contains (take l.place (texts_of l.found))) l.place

@@ -1,6 +1,6 @@
 use Rattle.std.proofs.Common.{◌≡◌, Contains, length, refl, subst, arith}
 use Rattle.std.proofs.lemmas.Option.{slice_get_read}
-use Rattle.exchange_engine.specs.Gathered.{Gains, texts_of}
+use Rattle.exchange_engine.specs.Gathered.{Gains}
 use Rattle.exchange_engine.proofs.GatheredLemmas.{Gains-element, Gains-elements}
 use Rattle.exchange_engine.proofs.loading.pool.add_rows.Goals as goal
 
@@ -10,11 +10,11 @@ loop-fact-preserved c =
     let i = c.loop-fact.fact-index in
     let here = slice_get_read table (length table) i c.fact-item.result refl (omega (arith, c.loop-fact-test.true)) c.fact-item.is in
     let same : c.as_slice.result.now ≡ c.fact-item.result.row = cc in
-    Gains-element (texts_of c.args.found.now.items) (texts_of c.loop-fact.found.items) (texts_of c.add_cells.new.found.items) (λ fact. Contains fact.row) (λ fact. length fact.row) table i
+    Gains-element c.args.gathered.now c.loop-fact.gathered c.add_cells.new.gathered (λ fact. Contains fact.row) (λ fact. length fact.row) table i
     c.fact-item.result here c.loop-fact.invariant
-    (subst (λ cells. Gains (texts_of c.loop-fact.found.items) (texts_of c.add_cells.new.found.items) (Contains cells) (length cells)) same c.in_ok-add_cells.ensures)
+    (subst (λ cells. Gains c.loop-fact.gathered c.add_cells.new.gathered (Contains cells) (length cells)) same c.in_ok-add_cells.ensures)
 
 pub returns : goal.returns
 returns c =
-    Gains-elements (texts_of c.args.found.now.items) (texts_of c.loop-fact.found.items) (λ fact. Contains fact.row) (λ fact. length fact.row) c.args.table.now
+    Gains-elements c.args.gathered.now c.loop-fact.gathered (λ fact. Contains fact.row) (λ fact. length fact.row) c.args.table.now
     c.loop-fact.fact-index c.loop-fact-test.false c.loop-fact.invariant
