@@ -1,6 +1,7 @@
 //! The cells of a stored table, and their texts.
 
-ghost use Rattle.std.specs.Prelude.{◌≡◌, ◌<◌, ◌^◌, ◌∷◌, ◌++◌, IfOk, OnOk, string_bytes};
+ghost use Rattle.std.specs.Prelude.{◌≡◌, ◌<◌, ◌^◌, ◌∷◌, ◌++◌, IfOk, OnOk, IfSome, IsSome, string_bytes};
+ghost use Rattle.std.specs.Bool.{OnTrue, OnFalse};
 ghost use Rattle.std.specs.Fmt.{decimal};
 ghost use Rattle.temporal_csv.specs.Cells.{term_of};
 ghost use Rattle.temporal_csv.specs.Stored.{cell_text, mark, stored_constant};
@@ -31,6 +32,17 @@ pub fn cell_text(alloc: Global, cell: &Cell<'_>) -> Result<Text, Memory>
     Ok(Text::from_str(alloc, text.as_str())?)
 }
 
+/// A constant's own text, where it is stored as it is.
+pub fn own_text<'a>(cell: &Cell<'a>) -> Option<&'a str>
+    ensures text { IfSome result (λ text. text.now ≡ cell_text (term_of cell.now)) }
+    ensures fits { IsSome result → FitsWord (term_of cell.now) }
+{
+    match cell {
+        Cell::Const(constant) if !begins_with_mark(constant) => Some(*constant),
+        _ => None,
+    }
+}
+
 /// Adds the text of a cell.
 pub fn append_cell(text: &mut String, cell: &Cell<'_>) -> Result<(), AllocError>
     ensures text { OnOk result (string_bytes text.new
@@ -57,8 +69,16 @@ fn append_constant(text: &mut String, constant: &str) -> Result<(), AllocError>
     ensures { OnOk result (string_bytes text.new
         ≡ string_bytes text.old ++ stored_constant constant.now) }
 {
-    if constant.as_bytes().first() == Some(&MARK) {
+    if begins_with_mark(constant) {
         text.push_str("?")?;
     }
     text.push_str(constant)
+}
+
+// Whether a constant is stored with one more mark in front.
+fn begins_with_mark(constant: &str) -> bool
+    ensures doubled { OnTrue result (stored_constant constant.now ≡ mark ∷ constant.now) }
+    ensures own { OnFalse result (stored_constant constant.now ≡ constant.now) }
+{
+    constant.as_bytes().first() == Some(&MARK)
 }

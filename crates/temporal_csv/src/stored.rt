@@ -8,7 +8,7 @@ ghost use Rattle.temporal_csv.specs.Cells.{term_of};
 ghost use Rattle.temporal_csv.specs.Stored.{AreNumbered, BeginsWithLetter, HasStorableEnds, IsAsWideAs, IsStored, IsStoredBare, bare_row, cell_text, end_texts, header_of, stamped_row, table_text};
 ghost use Rattle.temporal_csv.specs.TableWriter.{FitsWord, HasWritten, IsBetween, row_in, written_text};
 
-use crate::cell::{Cell, append_cell};
+use crate::cell::{Cell, append_cell, own_text};
 use crate::laws::stored_tables_are_read_back;
 use crate::row_source::RowSource;
 use csv::{ByteRecord, Writer, WriterBuilder};
@@ -136,6 +136,10 @@ fn push_cell(fields: &mut ByteRecord, text: &mut String, cell: &Cell<'_>) -> Res
     ensures whole { OnOk result (partial_of fields.new ≡ []) }
     ensures fits { OnOk result (FitsWord (term_of cell.now)) }
 {
+    if let Some(own) = own_text(cell) {
+        fields.push_field(own.as_bytes())?;
+        return Ok(());
+    }
     text.clear();
     append_cell(text, cell)?;
     fields.push_field(text.as_bytes())?;
