@@ -20,8 +20,9 @@ use crate::rendering::render;
 use exchange_engine::{Loaded, Outcome, Solved, exchange, load};
 use std::alloc::Global;
 use std::marker::Brand;
+use std::mem::forget;
 use std::sync::ledger::{Blank, Ledger};
-use term_core::{Items, Memory, Steps};
+use term_core::{Memory, Steps};
 
 /// What an exchange makes: the files of a target, and what is printed of it; or a certificate, where some instant has no solution.
 pub fn solve(alloc: Global, target: &str, inputs: Inputs) -> Result<Product, Memory>
@@ -34,45 +35,32 @@ pub fn solve(alloc: Global, target: &str, inputs: Inputs) -> Result<Product, Mem
     let loaded = load_inputs(alloc, inputs)?;
     let outcome = exchanged::<Brand>(alloc, &loaded, Blank::new(1))?;
     match outcome {
-        Outcome::Solved(solved) => tell(alloc, target, &loaded, solved),
+        Outcome::Solved(solved) => tell(alloc, target, loaded, solved),
         Outcome::Failed(trace) => refute(alloc, target, &trace),
     }
 }
 
-// The files of a target, and what is printed of it. The run behind it is given up first, since the files need memory.
-fn tell(alloc: Global, target: &str, loaded: &Loaded, solved: Solved) -> Result<Product, Memory>
-    requires { IsSolvedFrom loaded.now solved }
-    ensures { IfOk result (λ product. (inputs : InputsValue) → IsLoadedFrom inputs loaded.now
+// The files of a target, and what is printed of it. What they are made of is not given back list by list: the program ends soon, and
+// the system takes all its memory at once.
+fn tell(alloc: Global, target: &str, loaded: Loaded, solved: Solved) -> Result<Product, Memory>
+    requires { IsSolvedFrom loaded solved }
+    ensures { IfOk result (λ product. (inputs : InputsValue) → IsLoadedFrom inputs loaded
         → IsSolved inputs target.now product) }
 {
     stored_tables_are_a_target();
     stored_answers_are_certain();
-    let Solved {
-        tables,
-        answers,
-        nulls,
-        counts,
-        firings,
-        journal,
-    } = solved;
-    drop(firings);
-    drop(journal);
+    let counts = solved.counts;
     let finding = Finding::Solved {
         pieces: counts.pieces,
         firings: counts.firings,
         steps: counts.steps,
         cuts: counts.cuts,
     };
-    let shown = Solved {
-        tables,
-        answers,
-        nulls,
-        counts,
-        firings: Items::new(alloc),
-        journal: Items::new(alloc),
-    };
+    let files = render(alloc, &loaded, &solved, target)?;
+    forget(solved);
+    forget(loaded);
     Ok(Product {
-        files: render(alloc, loaded, &shown, target)?,
+        files,
         line: printed_line(alloc, finding)?,
         finding,
     })

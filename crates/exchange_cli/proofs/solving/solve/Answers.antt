@@ -18,8 +18,8 @@ returns-in-Solved c =
     (λ product. IsSolved inputs target product ⊎ IsUnsolved inputs target product)
     (λ product made. inl (made inputs c.in_ok-loaded.ensures)) c.tell.ensures
 
-pub returns : goal.returns
-returns c =
+pub returns-in-Failed : goal.returns-in-Failed
+returns-in-Failed c =
     let inputs = read_of c.args.inputs in
     let target = c.args.target.now in
     let loaded = c.in_ok-loaded.loaded in

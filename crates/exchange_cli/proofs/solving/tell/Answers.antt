@@ -10,17 +10,17 @@ use Rattle.exchange_cli.proofs.CertainLemmas.{answers_wide, answers_within, same
 use Rattle.exchange_cli.proofs.solving.tell.Goals as goal
 
 pub render-requires-clause-answers : goal.render-requires-clause-answers
-render-requires-clause-answers c = answers_wide c.args.loaded.now c.args.solved.answers c.requires.answers
+render-requires-clause-answers c = answers_wide c.args.loaded c.args.solved.answers c.requires.answers
 
 pub render-requires-clause-answers_within : goal.render-requires-clause-answers_within
-render-requires-clause-answers_within c = answers_within c.args.loaded.now c.args.solved.answers c.requires.answers
+render-requires-clause-answers_within c = answers_within c.args.loaded c.args.solved.answers c.requires.answers
 
 pub returns : goal.returns
 returns c = λ inputs from.
-    let loaded = c.args.loaded.now in
+    let loaded = c.args.loaded in
     let solved = c.args.solved in
     let target = c.args.target.now in
-    let rendered = c.in_ok-render.ensures in
+    let rendered = c.in_ok-files.ensures in
     let given = c.requires in
     let same : loaded.rules.targets ≡ inputs.mapping.rules.targets = ap (λ (r : RuleSet). r.targets) from.rules.2 in
     let answered : map answer_relation loaded.rules.queries ≡ map answer_relation inputs.mapping.rules.queries =
