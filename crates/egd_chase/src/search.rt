@@ -124,6 +124,9 @@ impl Search {
     {
         rows_that_lose_times_stay_listed();
         let parts = parts_of(alloc, egds)?;
+        if egds.is_empty() {
+            return Ok(Search { parts, limit: 1 });
+        }
         let rows = all_rows(alloc, store, steps)?;
         let mut search = Search { parts, limit: 1 };
         search.add(store, rows.as_slice(), steps)?;
