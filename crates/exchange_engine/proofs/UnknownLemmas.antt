@@ -1,11 +1,13 @@
 -- The unknowns of tables as they are gathered, and once they are sorted.
-use Rattle.std.proofs.Common.{◌≡◌, ◌∙◌, true, List, [], ◌∷◌, ◌++◌, map, refl, sym, subst, inl, inr, ⊎_elim, Any, Contains, arith}
-use Rattle.std.specs.Borrow.{Bor}
+use Rattle.std.proofs.Common.{◌≡◌, ◌↔◌, ◌∙◌, ℕ, ◌+◌, ◌<◌, ◌≤◌, true, List, [], ◌∷◌, ◌++◌, length, get_or, refl, sym, ap, subst, inl, inr, ⊎_elim, Any, Contains, arith}
 use Rattle.std.specs.declared.cmp.Ordering.{Ordering}
 use Rattle.std.specs.declared.cmp.Ordering.TheVariants.{Less, Equal, Greater}
-use Rattle.std.specs.Ordering.{is_eq, eq_by_cmp, on}
-use Rattle.std.specs.Cmp.{IsEquivalence, on_equiv, on_total}
-use Rattle.std.specs.Prelude.{Bool, IsPermutation, IsSorted}
+use Rattle.std.specs.Ordering.{is_eq, eq_by_cmp}
+use Rattle.std.specs.Cmp.{IsEquivalence}
+use Rattle.std.specs.Prelude.{Bool, IsPermutation, IsSorted, AllPairs}
+use Rattle.std.proofs.lemmas.Bool.{cases_lt}
+use Rattle.std.proofs.lemmas.List.{get_or_default}
+use Rattle.std.proofs.lemmas.List.Quantifiers.{all_pairs_push}
 use Rattle.std.specs.List.{dedup}
 use Rattle.std.proofs.lemmas.List.Kept.{Any-dedup, Contains-from_dedup, IsStrictlySortedBy-dedup}
 use Rattle.std.proofs.lemmas.List.Sorted.{Contains-permutation, IsPermutation-sym}
@@ -16,13 +18,7 @@ use Rattle.term_core.specs.declared.term.Term.TheVariants.{Null}
 use Rattle.term_core.specs.declared.term.Unknown.{Unknown as HeldUnknown}
 use Rattle.term_core.specs.Order.{unknown_cmp}
 use Rattle.term_core.proofs.OrderLemmas.{unknown_cmp-total, unknown_cmp-IsAntisymmetric}
-use Rattle.rule_core.proofs.ListLemmas.{Contains-nil, Contains-map, Contains-from_map, AllPairs-map}
-use Rattle.exchange_engine.specs.Solved.{TermTable, IsUnknownOf, AreUnknownsOf}
 use Rattle.exchange_engine.specs.Grouped.{IsUnknownIn, AddsUnknowns}
-
--- what references refer to
-abbrev pub held : List (Bor HeldUnknown) → List HeldUnknown
-held refs = map (λ u. u.now) refs
 
 -- nothing is added for an empty list
 pub none_of : {X : Type 0} (Has : X → HeldUnknown → Type 0) (found : List HeldUnknown)
@@ -72,38 +68,44 @@ more_in terms term a b c old new u = (
       d),
 )
 
+-- terms that are one unknown have one
+pub same_unknown : (u w : HeldUnknown) → Null u ≡ Null w → u ≡ w
+same_unknown u w e = cc
+
 eq_equal : (r : Ordering) → is_eq r ≡ true → r ≡ Equal
 eq_equal Less e = absurd cc
 eq_equal Equal e = refl
 eq_equal Greater e = absurd cc
 
--- of references in order, each once, what they refer to
+-- unknowns in order, each once
 module _ (E : HeldUnknown → HeldUnknown → Bool) (equivalence : IsEquivalence E)
     (ties : (x y : HeldUnknown) → E x y ≡ eq_by_cmp unknown_cmp x y) where
-  pub sorted_once : (tables : List TermTable) (gathered sorted : List (Bor HeldUnknown)) → AddsUnknowns (IsUnknownOf tables) [] (held gathered)
-      → IsPermutation gathered sorted → IsSorted (on (λ u. u.now) unknown_cmp) sorted
-      → AreUnknownsOf tables (held (dedup (on (λ u. u.now) E) sorted))
-  sorted_once tables gathered sorted are moved order = record {
-    each = λ u. (
-      λ d.
-          let ref = Contains-from_map now once u d in
-          let there = Contains-permutation _ _ ref.0 (IsPermutation-sym _ _ moved) (Contains-from_dedup (on now E) sorted ref.0 ref.1) in
-          let has = subst (Contains (held gathered)) ref.2 (Contains-map now gathered ref.0 there) in
-          ⊎_elim (λ (none : Contains [] u). absurd (Contains-nil u none)) (λ (k : IsUnknownOf tables u). k) ((are u).0 has),
-      λ k.
-          let ref = Contains-from_map now gathered u ((are u).1 (inr k)) in
-          let kept = Any-dedup (on_equiv now equivalence) sorted ref.0 (Contains-permutation _ _ ref.0 moved ref.1) in
-          let same : ref.0.now ≡ kept.1.now =
-          unknown_cmp-IsAntisymmetric ref.0.now kept.1.now (eq_equal _ (sym (ties ref.0.now kept.1.now) ∙ kept.4)) in
-          subst (Contains (held once)) (sym same ∙ ref.2) (Contains-map now once kept.1 (kept.0, kept.2, kept.3)),
-    );
-    ascending = AllPairs-map (λ u w. unknown_cmp u w ≡ Less) now once (λ i j d before within.
-        Less-from_sorted (on now unknown_cmp) once i j d
-        (IsStrictlySortedBy-dedup (on_total now unknown_cmp-total) (λ x y. ties x.now y.now) sorted order) before within);
-  }
-    where
-      now : Bor HeldUnknown → HeldUnknown
-      now u = u.now
+  pub sorted_same : (gathered sorted : List HeldUnknown) → IsPermutation gathered sorted → (u : HeldUnknown)
+      → Contains (dedup E sorted) u ↔ Contains gathered u
+  sorted_same gathered sorted moved u = (
+    λ d. Contains-permutation _ _ u (IsPermutation-sym _ _ moved) (Contains-from_dedup E sorted u d),
+    λ k.
+        let kept = Any-dedup equivalence sorted u (Contains-permutation _ _ u moved k) in
+        let same : u ≡ kept.1 = unknown_cmp-IsAntisymmetric u kept.1 (eq_equal _ (sym (ties u kept.1) ∙ kept.4)) in
+        subst (Contains (dedup E sorted)) (sym same) (kept.0, kept.2, kept.3),
+  )
 
-      once : List (Bor HeldUnknown)
-      once = dedup (on now E) sorted
+  pub sorted_ascending : (sorted : List HeldUnknown) → IsSorted unknown_cmp sorted → AllPairs (λ u w. unknown_cmp u w ≡ Less) (dedup E sorted)
+  sorted_ascending sorted order i j d before within =
+      Less-from_sorted unknown_cmp (dedup E sorted) i j d (IsStrictlySortedBy-dedup unknown_cmp-total ties sorted order) before within
+
+-- one more unknown, behind the last one
+pub ascending_more : (unknowns : List HeldUnknown) (last unknown : HeldUnknown) (k : ℕ) → length unknowns ≡ k + 1
+    → get_or unknowns k last ≡ last → unknown_cmp last unknown ≡ Less → AllPairs (λ u w. unknown_cmp u w ≡ Less) unknowns
+    → AllPairs (λ u w. unknown_cmp u w ≡ Less) (unknowns ++ unknown ∷ [])
+ascending_more unknowns last unknown k size is less order =
+    all_pairs_push (λ u w. unknown_cmp u w ≡ Less) unknowns unknown order
+    (λ i d within. ⊎_elim
+    (λ (before : i < k).
+    unknown_cmp-total.trans (get_or unknowns i d) last unknown
+    (subst (λ u. unknown_cmp (get_or unknowns i d) u ≡ Less) (here k d refl) (order i k d before (omega (arith, size)))) less)
+    (λ (behind : k ≤ i). subst (λ u. unknown_cmp u unknown ≡ Less) (sym (here i d (omega (arith, behind, within, size)))) less)
+    (cases_lt i k))
+  where
+    here : (i : ℕ) (d : HeldUnknown) → i ≡ k → get_or unknowns i d ≡ last
+    here i d e = ap (λ n. get_or unknowns n d) e ∙ get_or_default unknowns k d last (omega (arith, size)) ∙ is

@@ -1,12 +1,13 @@
 -- How the rows of a store become tables. No public clause cites this module.
-use Rattle.std.specs.Prelude.{◌≡◌, ◌⊎◌, ◌↔◌, ℕ, ◌<◌, ℤ, List, Some, map, All, Any, Contains}
+use Rattle.std.specs.Prelude.{◌≡◌, ◌⊎◌, ◌↔◌, ℕ, ◌<◌, ℤ, Bool, true, List, Some, map, All, AllPairs, Any, Contains}
+use Rattle.std.specs.declared.cmp.Ordering.TheVariants.{Less}
 use Rattle.std.specs.Option.{option_map}
 use Rattle.std.specs.Cmp.Lexicographic.{slice_cmp}
 use Rattle.term_core.specs.declared.const_id.ConstId.{ConstId}
 use Rattle.term_core.specs.declared.term.Term.{Term}
 use Rattle.term_core.specs.declared.term.Term.TheVariants.{Null}
 use Rattle.term_core.specs.declared.term.Unknown.{Unknown as HeldUnknown}
-use Rattle.term_core.specs.Order.{term_cmp}
+use Rattle.term_core.specs.Order.{term_cmp, unknown_cmp}
 use Rattle.rule_core.specs.Terms.{StampedOf, FactOf}
 use Rattle.rule_core.specs.Values.{term_value, table_value}
 use Rattle.rule_core.specs.Tables.{facts_of}
@@ -53,3 +54,7 @@ IsUnknownAmong table u = Any (λ e. IsUnknownIn e.row u) table
 -- the new list has these unknowns too
 abbrev pub AddsUnknowns : (HeldUnknown → Type 0) → List HeldUnknown → List HeldUnknown → Type 0
 AddsUnknowns IsOne old new = (u : HeldUnknown) → Contains new u ↔ (Contains old u ⊎ IsOne u)
+
+-- where it is so, each of the unknowns stands before all later ones
+abbrev pub AscendIf : Bool → List HeldUnknown → Type 0
+AscendIf ascend unknowns = ascend ≡ true → AllPairs (λ u w. unknown_cmp u w ≡ Less) unknowns
