@@ -13,9 +13,6 @@ use std::alloc::Global;
 use term_core::{Items, Memory};
 use time_line::Span;
 
-/// In how many places a list that is in order but for these may have a row that comes before the one behind which it stands.
-const FEW: usize = 32;
-
 /// The list in order, each row once for each stretch of time over which it holds. It covers what the given list covers.
 pub fn coalesce(_alloc: Global, rows: Items<Stamped>) -> Result<Items<Stamped>, Memory>
     ensures coalesced { IfOk result (IsCoalesced (slice_cmp term_cmp)) }
@@ -26,29 +23,11 @@ pub fn coalesce(_alloc: Global, rows: Items<Stamped>) -> Result<Items<Stamped>, 
     if rows.is_empty() {
         return Ok(Items::from_vec(rows));
     }
-    put_in_order(&mut rows)?;
+    // Rows come rule by rule, and in order for each rule: the stable sort merges such stretches.
+    rows.sort()?;
     let last = sweep(&mut rows);
     rows.truncate(last + 1);
     Ok(Items::from_vec(rows))
-}
-
-// Sorts rows. Where they stand in a few stretches that are in order, as rows of a few rules do, these are merged.
-fn put_in_order(rows: &mut Vec<Stamped>) -> Result<(), Memory>
-    ensures size { OnOk result (length rows.new.items ≡ length rows.old.items) }
-    ensures permutation { OnOk result (IsPermutation rows.old.items rows.new.items) }
-    ensures sorted { OnOk result (IsSorted (stamped_cmp (slice_cmp term_cmp)) rows.new.items) }
-{
-    if count_breaks(rows.as_slice()) <= FEW {
-        rows.sort()?;
-        return Ok(());
-    }
-    rows.sort_unstable();
-    Ok(())
-}
-
-// How often a row comes before the one that it stands behind.
-fn count_breaks(rows: &[Stamped]) -> usize {
-    rows.windows(2).filter(|pair| pair[1] < pair[0]).count()
 }
 
 // Brings the coalesced rows to the front, and answers the place of the last one.

@@ -55,10 +55,7 @@ fn word(bytes: &[u8], number: u8) -> u64 {
 
 // Fewer than eight bytes as a number.
 fn short_word(bytes: &[u8]) -> u64 {
-    let mut word = 0;
-    for place in 0..8 {
-        let byte = bytes.get(place).copied().unwrap_or(0);
-        word = word << 8 | byte as u64;
-    }
-    word
+    let word = bytes.iter().fold(0, |word, byte| word << 8 | *byte as u64);
+    let missing = 8_usize.saturating_sub(bytes.len()) as u32;
+    word.checked_shl(8 * missing).unwrap_or(0)
 }
