@@ -50,7 +50,14 @@ impl<'a> Found<'a> {
 #[derive(Drop)]
 struct Gathered<'a> {
     found: Vec<Found<'a>>,
-    seats: Vec<usize>,
+    seats: Vec<Seat>,
+}
+
+// How the text begins that took a seat last, and its place among those that were found.
+#[derive(Clone, Copy, Debug)]
+struct Seat {
+    front: Front,
+    place: usize,
 }
 
 impl<'a> Model for Gathered<'a> {
@@ -67,9 +74,11 @@ impl<'a> Gathered<'a> {
     fn new(alloc: Global) -> Result<Gathered<'a>, Memory>
         ensures { IfOk result (λ gathered. gathered ≡ []) }
     {
+        let front = Front::of("");
+        let free = Seat { front, place: 0 };
         Ok(Gathered {
             found: Vec::new(alloc),
-            seats: vec![in alloc; 0; SEATS]?,
+            seats: vec![in alloc; free; SEATS]?,
         })
     }
 
@@ -78,32 +87,31 @@ impl<'a> Gathered<'a> {
         ensures { OnOk result (Gains self.old self.new (λ t. t ≡ text.now) 1) }
     {
         let one = Found::new(text);
-        let seat = one.front.seat();
-        if self.has_seat(seat, text) {
+        if self.has_seat(&one.front, text) {
             return Ok(());
         }
-        self.take_seat(seat);
+        self.take_seat(one.front);
         self.found.push(one)?;
         Ok(())
     }
 
-    // Whether the text is the last one that took the seat.
-    fn has_seat(&self, seat: usize, text: &str) -> bool
+    // Whether the text that begins so is the last one that took its seat.
+    fn has_seat(&self, front: &Front, text: &str) -> bool
         ensures { IsTrue result → Contains self.now text.now }
     {
-        let Some(place) = self.seats.get(seat) else {
+        let Some(seat) = self.seats.get(front.seat()) else {
             return false;
         };
-        is_at(self.found.as_slice(), *place, text)
+        seat.front == *front && is_at(self.found.as_slice(), seat.place, text)
     }
 
-    // Gives a seat to the text that is found next.
-    fn take_seat(&mut self, seat: usize)
+    // Gives the seat of texts that begin so to the one that is found next.
+    fn take_seat(&mut self, front: Front)
         ensures { self.new ≡ self.old }
     {
-        let next = self.found.len();
-        if let Some(place) = self.seats.get_mut(seat) {
-            *place = next;
+        let place = self.found.len();
+        if let Some(seat) = self.seats.get_mut(front.seat()) {
+            *seat = Seat { front, place };
         }
     }
 
